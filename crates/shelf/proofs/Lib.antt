@@ -1,0 +1,4 @@
+pub mod Folds
+pub mod Perms
+pub mod Solutions
+pub mod Times

@@ -1,0 +1,4 @@
+pub mod Folds
+pub mod Picks
+pub mod Smallest
+pub mod Times
