@@ -1,0 +1,3 @@
+pub mod Replying
+pub mod Pairing
+pub mod Asking

@@ -1,0 +1,4 @@
+pub mod Gathered
+pub mod KindLaws
+pub mod Rows
+pub mod Tables
