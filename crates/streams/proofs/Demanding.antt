@@ -10,7 +10,7 @@ use Rattle.std.proofs.shelf.Sums.{sumBy-cons}
 use Rattle.shelf.specs.Picks.{Perm}
 use Rattle.shelf.proofs.Perms.{perm-sum}
 use Rattle.streams.specs.declared.stream.Stream.{Stream}
-use Rattle.streams.specs.Demands.{ceil, demand, Fit, Rounded}
+use Rattle.streams.specs.Demands.{ceil, demand, total, Fit, Rounded}
 
 pub ceil-mono : (t v w : ℕ) → 1 ≤ t → v ≤ w → ceil v t ≤ ceil w t
 unfolding ceil
@@ -50,3 +50,11 @@ demand-perm p w = perm-sum (λ s. ceil w (s .period) * s .cost) p
 -- what one stream demands up to the horizon fits
 pub share-le : (t w c : ℕ) → 1000000 ≤ t → w ≤ 4000008000 → c ≤ 20000000 → ceil w t * c ≤ 80020000000
 share-le t w c p h k = mul-le (ceil w t) c 4001 20000000 (ceil-le t w 4001 (omega arith) (omega arith)) k
+
+pub total-cons : (s : Stream) (streams : List Stream) → total (s ∷ streams) ≡ s .cost + total streams
+unfolding total
+total-cons s streams = sumBy-cons (λ s. s .cost) s streams
+
+pub total-perm : {xs ys : List Stream} → Perm xs ys → total xs ≡ total ys
+unfolding total
+total-perm p = perm-sum (λ s. s .cost) p

@@ -33,3 +33,7 @@ demand streams w = sumBy (λ s. ceil w (s .period) * s .cost) streams
 -- what is to be served in w: a base, and what the streams release in w and the time ahead
 abbrev pub busy : List Stream → ℕ → ℕ → ℕ → ℕ
 busy streams base ahead w = base + demand streams (w + ahead)
+
+-- the costs of the streams together
+unfoldable pub total : List Stream → ℕ
+total streams = sumBy (λ s. s .cost) streams

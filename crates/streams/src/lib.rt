@@ -3,3 +3,4 @@
 pub mod demand;
 pub mod settle;
 pub mod stream;
+pub mod totals;

@@ -1,0 +1,2 @@
+pub mod Gateways
+pub mod Limits
