@@ -3,5 +3,6 @@
 pub mod domain;
 pub mod fault;
 pub mod figure;
+pub mod laws;
 pub mod pair;
 pub mod place;

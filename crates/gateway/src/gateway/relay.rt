@@ -1,8 +1,13 @@
 // The gateway processor as a domain.
+ghost use mathlib.Core.Path.{_≡_};
 ghost use mathlib.Core.List.{[], _∷_};
+ghost use Prim.Native.Nat.{_≤_};
+ghost use lib.ListN.{length};
+ghost use Rattle.std.specs.shelf.Lists.{All};
+ghost use Rattle.streams.specs.Demands.{Fit};
 ghost use Rattle.domains.specs.Faults.{Made, limited};
 ghost use Rattle.kinds.specs.Rows.{one, alone-cost, alone-response};
-ghost use Rattle.gateway.specs.Gateways.{figures, gateway-price, relayed};
+ghost use Rattle.gateway.specs.Gateways.{figures, gateway-price, relayed, Relayed};
 use crate::gateway::Gateway;
 use domains::domain::Domain;
 use domains::fault::DomainFault;
@@ -36,7 +41,14 @@ pub impl Kind for Gateway as GatewayKind {
         self.fixed + self.byte * payload as u64
     }
 
-    fn time(&self, own: Stream, above: &[Stream], _below: &[Stream]) -> Option<u64> {
+    // A smallest solution, or none up to the horizon: frames below it do not matter.
+    fn time(&self, own: Stream, above: &[Stream], below: &[Stream]) -> Option<u64>
+        requires own { ⌜ Fit own ⌝ }
+        requires over { ⌜ All Fit (now above) ⌝ }
+        requires few { ⌜ length (now above) ≤ 96 ⌝ }
+        ensures is { λ r. ⌜ r ≡ relayed own (now (above .entry)) (now (below .entry)) ⌝ }
+        ensures smallest { λ r. ⌜ Relayed own (now (above .entry)) r ⌝ }
+    {
         settle(above, own.cost, 0, 1, 0)
     }
 }

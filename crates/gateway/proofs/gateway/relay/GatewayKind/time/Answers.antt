@@ -1,10 +1,11 @@
-use mathlib.Core.Path.{_≡_, ap, fun-ext, _∙_}
+use mathlib.Core.Path.{_≡_, sym, ap, subst, fun-ext, _∙_}
 use Prim.Native.Nat.{ℕ, _+_}
 use native.Mathlib.Nat.{add-zero}
 use native.Mathlib.Omega.{arith}
 use Rattle.shelf.specs.Smallest.{solution}
 use Rattle.streams.specs.Demands.{demand, horizon}
-use Rattle.gateway.specs.Gateways.{relayed}
+use Rattle.gateway.specs.Gateways.{relayed, Relayed}
+use Rattle.gateway.proofs.Relays.{relayed-is}
 use Rattle.gateway.proofs.gateway.relay.GatewayKind.time.Needs as need
 
 pub settle-requires : need.settle-requires
@@ -14,4 +15,6 @@ settle-requires c κs =
 pub returns : need.returns
 unfolding relayed
 returns c =
-    c .settle .ensures .is ∙ ap (λ (rule : ℕ → ℕ). solution rule 1 horizon) (fun-ext (λ w. ap (λ n. c .args .own .cost + demand (c .args .above .now) n) (add-zero w)))
+    let above = c .args .above .now in
+    let is = c .settle .ensures .is ∙ ap (λ (rule : ℕ → ℕ). solution rule 1 horizon) (fun-ext (λ w. ap (λ n. c .args .own .cost + demand above n) (add-zero w))) in
+    record { is = is; smallest = subst (Relayed (c .args .own) above) (sym is) (relayed-is (c .args .own) above (c .args .below .now)) }
