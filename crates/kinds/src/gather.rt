@@ -39,7 +39,7 @@ fn place_of(places: &[Place], f: usize, i: usize) -> Place
 }
 
 // A frame as a kind sees it.
-pub fn stream_of<K: Kind>(kind: &K, frame: &Frame) -> Stream
+pub(crate) fn stream_of<K: Kind>(kind: &K, frame: &Frame) -> Stream
     ensures { λ r. ⌜ r ≡ stream-by (price (now (kind .entry))) (row-of (now (frame .entry))) ⌝ }
 {
     Stream {
@@ -49,7 +49,7 @@ pub fn stream_of<K: Kind>(kind: &K, frame: &Frame) -> Stream
 }
 
 // The streams of the rows at the place wanted; none where one of these rows is outside the limits of a record.
-pub fn gather<K: Kind>(
+pub(crate) fn gather<K: Kind>(
     kind: &K,
     rows: &[Row],
     places: &[Place],

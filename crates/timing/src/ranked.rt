@@ -22,7 +22,7 @@ fn rank_of(row: &Row, k: usize, f: usize, i: usize) -> Place
 }
 
 // What domain k is told of the others when it is asked about frame f: of the frames that it carries, and no others.
-pub fn ranked(rows: &[Row], k: usize, f: usize) -> [Place; 96]
+fn ranked(rows: &[Row], k: usize, f: usize) -> [Place; 96]
     requires { ⌜ length (now rows) ≤ 96 ⌝ }
     ensures { λ r. ⌜ ((j : ℕ) → j < length (now (rows .entry)) → getD r j Gone ≡ rank k f j (getD (now (rows .entry)) j no-row)) ⌝ }
 {

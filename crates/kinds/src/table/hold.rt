@@ -10,7 +10,7 @@ use streams::stream::Stream;
 const NO_STREAM: Stream = Stream { cost: 0, period: 0 };
 
 impl Streams {
-    pub fn none() -> Streams
+    pub(crate) fn none() -> Streams
         ensures { λ r. ⌜ listed r ≡ [] ⌝ }
     {
         Streams {
@@ -19,7 +19,7 @@ impl Streams {
         }
     }
 
-    pub fn push(&mut self, stream: Stream)
+    pub(crate) fn push(&mut self, stream: Stream)
         requires { ⌜ length (listed (now self)) < 96 ⌝ }
         ensures { λ _. ⌜ listed (now (self .exit)) ≡ listed (now (self .entry)) ++ (stream ∷ []) ⌝ }
     {
@@ -28,7 +28,7 @@ impl Streams {
         self.count = at + 1;
     }
 
-    pub fn as_slice(&self) -> &[Stream]
+    pub(crate) fn as_slice(&self) -> &[Stream]
         ensures { λ r. ⌜ now r ≡ listed (now (self .entry)) ⌝ }
     {
         &self.items[0..self.count]

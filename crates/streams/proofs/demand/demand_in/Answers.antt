@@ -8,7 +8,7 @@ use Rattle.streams.specs.Demands.{ceil, demand, Fit}
 use Rattle.streams.proofs.demand.demand_in.Needs as need
 
 pub share-sum-requires : need.share-sum-requires
-share-sum-requires c κs = record { fit = all-getD Fit _ _ _ (c .loop-stream-test .taken) (c .pre .fit); soon = c .pre .soon }
+share-sum-requires c κs = record { fit = all-getD Fit _ _ _ (c .loop-stream-test .taken) (c .pre .fit); soon = omega arith }
 
 pub loop-stream-holds : need.loop-stream-holds
 unfolding demand
