@@ -1,5 +1,6 @@
 // Questions to banks: which have an answer, and which have none.
 use domains::domain::Domain;
+use domains::fault::DomainFaultDebug;
 use domains::pair::Pair;
 use domains::pair::PairDomain;
 use domains::place::Place;
@@ -25,12 +26,8 @@ fn row(fill: u8) -> Row {
 // A frame of payload 8 below one of payload 64, in a gateway, a link and two numbers past them.
 #[test]
 fn numbers_of_a_bank() -> Result<(), Fail> {
-    let Ok(gateway) = Gateway::new(20_000, 100) else {
-        return check(false);
-    };
-    let Ok(radio) = Radio::new(50_000) else {
-        return check(false);
-    };
+    let gateway = Gateway::new(20_000, 100)?;
+    let radio = Radio::new(50_000)?;
     let bank = Pair::new(gateway, radio);
     let rows = [row(64), row(8)];
     let places = [Place::Above, Place::Absent];
@@ -48,9 +45,7 @@ fn numbers_of_a_bank() -> Result<(), Fail> {
 
 #[test]
 fn more_than_four() -> Result<(), Fail> {
-    let Ok(link) = Radio::new(50_000) else {
-        return check(false);
-    };
+    let link = Radio::new(50_000)?;
     let three = Pair::new(Pair::new(link, link), link);
     let six = Pair::new(three, three);
     let Some(frame) = Frame::of(&row(8)) else {
@@ -65,9 +60,7 @@ fn more_than_four() -> Result<(), Fail> {
 
 #[test]
 fn no_answer() -> Result<(), Fail> {
-    let Ok(radio) = Radio::new(10_000) else {
-        return check(false);
-    };
+    let radio = Radio::new(10_000)?;
     let many = [row(1); 96];
     let more = [row(1); 97];
     check_eq(radio.answer(0, &many, &[], 95), Some(70_000)).note("96 rows")?;
@@ -91,9 +84,7 @@ fn no_answer() -> Result<(), Fail> {
 
 #[test]
 fn gain_without_a_frame() -> Result<(), Fail> {
-    let Ok(gateway) = Gateway::new(20_000, 100) else {
-        return check(false);
-    };
+    let gateway = Gateway::new(20_000, 100)?;
     let rows = [row(64), row(8)];
     let mut places = [Place::Absent; 96];
     places[0] = Place::Above;
