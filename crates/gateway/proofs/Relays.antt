@@ -58,7 +58,7 @@ gateway-kept = record {
   above-order = λ d s us us′ ls p. above-order s us us′ ls p;
   below-order = λ d s us ls ls′ p. below-any s us ls ls′;
   bounded = λ d s us ls f m n. time-bounded s us ls;
-  drop-above = λ d s x us ls f y m n. without-above s x us ls ls f m;
+  drop-above = λ d s x us ls f y m n. without-above s x us ls ls (f .fit) m;
   drop-below = λ d s x us ls f y m n. without-below s x us ls;
-  move-down = λ d s x us ls f y m n. without-above s x us ls (x ∷ ls) f m;
+  move-down = λ d s x us ls f y m n. without-above s x us ls (x ∷ ls) (f .fit) m;
 }

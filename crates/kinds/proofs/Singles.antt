@@ -19,7 +19,7 @@ use Rattle.shelf.proofs.Times.{no-later-if, at-most-if}
 use Rattle.streams.specs.declared.stream.Stream.{Stream}
 use Rattle.streams.specs.Demands.{Fit}
 use Rattle.domains.specs.Duties.{Duties}
-use Rattle.kinds.specs.KindLaws.{KindLaws}
+use Rattle.kinds.specs.KindLaws.{KindLaws, Own}
 use Rattle.kinds.specs.Rows.{stream-by, one, alone-cost, alone-response}
 
 at-zero : (k : ℕ) → k < 1 → eqb k 0 ≡ true
@@ -30,8 +30,11 @@ past-zero k h = ne-eqb k 0 (omega arith)
 
 module _ {D : Type 0} {price : D → ℕ → ℕ} {time : D → Stream → List Stream → List Stream → Option ℕ} (laws : KindLaws price time) where
   -- a row within the limits of a record is a stream within the limits of a domain
-  pub fit-by : (d : D) (r : Row) → Lawful r → Fit (stream-by (price d) r)
+  fit-by : (d : D) (r : Row) → Lawful r → Fit (stream-by (price d) r)
   fit-by d r l = record { priced = laws .costs d (payload (r .fill)) (payload-le (r .fill)); paced = l .paced }
+
+  pub own-by : (d : D) (r : Row) → Lawful r → Own (price d) (stream-by (price d) r)
+  own-by d r l = record { fit = fit-by d r l; least = laws .grows d 0 (payload (r .fill)) (omega arith) (payload-le (r .fill)) }
 
   pub all-fit : (d : D) (rows : List Row) → All Lawful rows → All Fit (map (stream-by (price d)) rows)
   all-fit d rows l = all-map Fit (stream-by (price d)) rows (all-weaker Lawful (λ r. Fit (stream-by (price d) r)) (fit-by d) rows l)
@@ -45,8 +48,8 @@ module _ {D : Type 0} {price : D → ℕ → ℕ} {time : D → Stream → List 
     mute = λ d k f a b h. cond-false _ _ _ (past-zero k h);
     above-order = λ d k f a o b p. ap (λ x. cond (eqb k 0) x None) (laws .above-order d _ _ _ _ (perm-map (stream-by (price d)) p));
     below-order = λ d k f a b o p. ap (λ x. cond (eqb k 0) x None) (laws .below-order d _ _ _ _ (perm-map (stream-by (price d)) p));
-    bounded = λ d k f a b l m n. at-most-if (eqb k 0) _ _ (laws .bounded d _ _ _ (fit-by d f l) (all-fit d a m) (all-fit d b n));
-    drop-above = λ d k f x a b l y m n. no-later-if (eqb k 0) (eqb k 0) _ _ (λ e. (e, laws .drop-above d _ _ _ _ (fit-by d f l) (fit-by d x y) (all-fit d a m) (all-fit d b n)));
-    drop-below = λ d k f x a b l y m n. no-later-if (eqb k 0) (eqb k 0) _ _ (λ e. (e, laws .drop-below d _ _ _ _ (fit-by d f l) (fit-by d x y) (all-fit d a m) (all-fit d b n)));
-    move-down = λ d k f x a b l y m n. no-later-if (eqb k 0) (eqb k 0) _ _ (λ e. (e, laws .move-down d _ _ _ _ (fit-by d f l) (fit-by d x y) (all-fit d a m) (all-fit d b n)));
+    bounded = λ d k f a b l m n. at-most-if (eqb k 0) _ _ (laws .bounded d _ _ _ (own-by d f l) (all-fit d a m) (all-fit d b n));
+    drop-above = λ d k f x a b l y m n. no-later-if (eqb k 0) (eqb k 0) _ _ (λ e. (e, laws .drop-above d _ _ _ _ (own-by d f l) (fit-by d x y) (all-fit d a m) (all-fit d b n)));
+    drop-below = λ d k f x a b l y m n. no-later-if (eqb k 0) (eqb k 0) _ _ (λ e. (e, laws .drop-below d _ _ _ _ (own-by d f l) (fit-by d x y) (all-fit d a m) (all-fit d b n)));
+    move-down = λ d k f x a b l y m n. no-later-if (eqb k 0) (eqb k 0) _ _ (λ e. (e, laws .move-down d _ _ _ _ (own-by d f l) (fit-by d x y) (all-fit d a m) (all-fit d b n)));
   }

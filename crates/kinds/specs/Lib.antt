@@ -1,4 +1,5 @@
 pub mod Gathered
 pub mod KindLaws
+pub mod Looked
 pub mod Rows
 pub mod Tables

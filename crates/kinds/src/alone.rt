@@ -3,9 +3,8 @@ ghost use mathlib.Core.Path.{_≡_};
 ghost use Rattle.frames.specs.Payloads.{payload};
 ghost use Rattle.domains.specs.Asked.{asked};
 ghost use Rattle.kinds.specs.Rows.{alone-cost, alone-response};
-use crate::gather::gather;
-use crate::gather::stream_of;
 use crate::kind::Kind;
+use crate::look::look;
 use domains::place::Place;
 use frames::frame::Frame;
 use frames::row::Row;
@@ -32,13 +31,6 @@ pub fn answer_alone<K: Kind>(
     if k != 0 {
         return None;
     }
-    if rows.len() > 96 || f >= rows.len() {
-        return None;
-    }
-    let Some(frame) = Frame::of(&rows[f]) else {
-        return None;
-    };
-    let above = gather(kind, rows, places, f, Place::Above)?;
-    let below = gather(kind, rows, places, f, Place::Below)?;
-    kind.time(stream_of(kind, &frame), above.as_slice(), below.as_slice())
+    let view = look(kind, rows, places, f)?;
+    kind.time(view.own, view.above.as_slice(), view.below.as_slice())
 }

@@ -7,7 +7,7 @@ ghost use Rattle.std.specs.declared.option.Option.{Option};
 ghost use Rattle.std.specs.shelf.Lists.{All};
 ghost use Rattle.streams.specs.declared.stream.Stream.{Stream};
 ghost use Rattle.streams.specs.Demands.{Fit};
-ghost use Rattle.kinds.specs.KindLaws.{KindLaws};
+ghost use Rattle.kinds.specs.KindLaws.{KindLaws, Own};
 use streams::stream::Stream;
 
 pub trait Kind {
@@ -24,7 +24,7 @@ pub trait Kind {
         ensures { λ r. ⌜ r ≡ price (now (self .entry)) payload ⌝ };
 
     fn time(&self, own: Stream, above: &[Stream], below: &[Stream]) -> Option<u64>
-        requires own { ⌜ Fit own ⌝ }
+        requires own { ⌜ Own (price (now self)) own ⌝ }
         requires over { ⌜ All Fit (now above) ⌝ }
         requires under { ⌜ All Fit (now below) ⌝ }
         requires few { ⌜ length (now above) ≤ 96 ⌝ }

@@ -3,4 +3,6 @@
 pub mod alone;
 mod gather;
 pub mod kind;
-mod table;
+pub mod look;
+pub mod table;
+pub mod view;

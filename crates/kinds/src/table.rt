@@ -5,11 +5,11 @@ ghost use lib.ListN.{length};
 use streams::stream::Stream;
 
 #[derive(Clone, Copy)]
-pub(crate) struct Streams {
+pub struct Streams {
     items: [Stream; 96],
     count: usize,
     ghost wide: { length items ≡ 96 },
     ghost few: { count ≤ 96 },
 }
 
-mod hold;
+pub mod hold;

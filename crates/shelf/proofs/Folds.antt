@@ -1,4 +1,4 @@
--- Minima over a list. Assumes nothing.
+-- Minima and maxima over a list. Assumes nothing.
 use mathlib.Core.Path.{_≡_, refl, ap, _∙_}
 use mathlib.Core.Bool.{Bool, true, false}
 use mathlib.Core.List.{List, [], _∷_, map}
@@ -23,6 +23,10 @@ module _ {X : Type 0} (f : X → ℕ) where
   pub least-min : (m p : ℕ) (xs : List X) → least f (min m p) xs ≡ min p (least f m xs)
   least-min m p [] = omega arith
   least-min m p (x ∷ xs) = omega (arith, least-min m p xs)
+
+  pub most-le : (n : ℕ) (xs : List X) → All (λ x. f x ≤ n) xs → most f xs ≤ n
+  most-le n [] h = omega arith
+  most-le n (x ∷ xs) h = omega (arith, h .0, most-le n xs (h .1))
 
 pub decides-every : {X : Type 0} (t : X → Bool) (P : X → Type 0) → ((x : X) → Decides (t x) (P x)) → (xs : List X) → Decides (every t xs) (All P xs)
 decides-every t P d xs = decides-by-and t P (every t) d refl (λ _ _. refl) xs

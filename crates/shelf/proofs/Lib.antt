@@ -1,4 +1,5 @@
 pub mod Folds
+pub mod Maxima
 pub mod Perms
 pub mod Solutions
 pub mod Times

@@ -86,6 +86,16 @@ pub solution-at-most : (rule : ℕ → ℕ) (low high : ℕ) → low ≤ high �
 solution-at-most rule low high h =
     at-most-by (λ w. w ≡ rule w) low high (solution rule low high) (solution-is rule low high h)
 
+some-below : (w : ℕ) (o : Option ℕ) → NoLater (Some w) o → (v : ℕ) × (o ≡ Some v) × (v ≤ w)
+some-below w (Some v) h = (v, refl, h)
+some-below w None h = absurd h
+
+-- below a point that the rule does not raise there is one
+pub solution-below : (rule : ℕ → ℕ) (low high w : ℕ) → low ≤ high → ((v w : ℕ) → v ≤ w → rule v ≤ rule w) → low ≤ rule low → low ≤ w → w ≤ high → rule w ≤ w → (v : ℕ) × (solution rule low high ≡ Some v) × (v ≤ w)
+solution-below rule low high w h up start a b c =
+    let v = falls-to rule low up start w w (le-refl w) a c in
+    some-below w (solution rule low high) (below-any rule low high (v .0) (solution rule low high) (v .1) (le-trans (v .2) b) (v .3) (solution-is rule low high h) w (v .2))
+
 -- worked by hand: so many turns of the rule from low
 abbrev pub climb : (ℕ → ℕ) → ℕ → ℕ → ℕ
 climb rule zero w = w

@@ -1,4 +1,5 @@
 pub mod Folds
+pub mod Largest
 pub mod Picks
 pub mod Smallest
 pub mod Times

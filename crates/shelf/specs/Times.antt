@@ -13,3 +13,8 @@ NoLater (Some t) (Some u) = u ≤ t
 abbrev pub AtMost : ℕ → Option ℕ → Type 0
 AtMost n None = Unit {0}
 AtMost n (Some t) = t ≤ n
+
+-- the time, or 0
+abbrev pub or-zero : Option ℕ → ℕ
+or-zero None = 0
+or-zero (Some t) = t

@@ -20,6 +20,10 @@ pub ceil-le : (t w m : ℕ) → 1 ≤ t → w ≤ m * t → ceil w t ≤ m
 unfolding ceil
 ceil-le t w m p h = let x = div-lt-iff-lt-mul {k = t} {x = w + (t - 1)} {y = m + 1} p .1 (omega arith) in omega arith
 
+pub ceil-pos : (t w : ℕ) → 1 ≤ t → 1 ≤ w → 1 ≤ ceil w t
+unfolding ceil
+ceil-pos t w p h = le-div-iff-mul-le p .1 (omega arith)
+
 covered : (t w : ℕ) → 1 ≤ t → w ≤ ceil w t * t
 unfolding ceil
 covered t w p = let x = div-lt-iff-lt-mul {k = t} {x = w + (t - 1)} {y = (w + (t - 1)) / t + 1} p .0 (omega arith) in omega arith

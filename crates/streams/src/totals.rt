@@ -3,7 +3,7 @@ ghost use mathlib.Core.Path.{_≡_};
 ghost use Prim.Native.Nat.{_≤_};
 ghost use lib.ListN.{length};
 ghost use Rattle.std.specs.shelf.Lists.{All};
-ghost use Rattle.shelf.specs.Folds.{least};
+ghost use Rattle.shelf.specs.Folds.{least, most};
 ghost use Rattle.streams.specs.Demands.{Fit, total};
 use crate::stream::Stream;
 
@@ -30,4 +30,15 @@ pub fn least_period(first: u64, streams: &[Stream]) -> u64
         smallest = smallest.min(stream.period);
     }
     smallest
+}
+
+// The largest of the streams' costs, or 0.
+pub fn largest_cost(streams: &[Stream]) -> u64
+    ensures { λ r. ⌜ r ≡ most (λ s. s .cost) (now (streams .entry)) ⌝ }
+{
+    let mut largest: u64 = 0;
+    for stream in streams {
+        largest = largest.max(stream.cost);
+    }
+    largest
 }

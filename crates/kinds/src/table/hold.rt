@@ -28,7 +28,7 @@ impl Streams {
         self.count = at + 1;
     }
 
-    pub(crate) fn as_slice(&self) -> &[Stream]
+    pub fn as_slice(&self) -> &[Stream]
         ensures { λ r. ⌜ now r ≡ listed (now (self .entry)) ⌝ }
     {
         &self.items[0..self.count]

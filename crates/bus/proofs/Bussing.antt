@@ -1,0 +1,121 @@
+-- The busy period of a CAN FD bus and its instances. Assumes nothing.
+use mathlib.Core.Path.{_≡_, refl, sym, ap, ap₂, fun-ext, subst, _∙_}
+use mathlib.Core.Bool.{Bool, true, false, cond}
+use mathlib.Core.List.{List, [], _∷_}
+use mathlib.Core.Logic.{⊎-elim}
+use Prim.Native.Nat.{ℕ, zero, suc, _+_, _-_, _*_, _≤_, _<_, max}
+use native.Mathlib.Omega.{arith}
+use native.Mathlib.Nat.{le-refl, le-trans, add-mul}
+use lib.Dec.{ltb}
+use Rattle.std.specs.shelf.Lists.{All}
+use Rattle.std.specs.declared.option.Option.{Option}
+use Rattle.std.specs.declared.option.Option.the-variants.{Some, None}
+use Rattle.std.proofs.shelf.Bits.{mul-le}
+use Rattle.std.proofs.shelf.Elements.{all-weaker}
+use Rattle.std.proofs.shelf.Tests.{cases-lt, ltb-true, ltb-false}
+use Rattle.shelf.specs.Folds.{most}
+use Rattle.shelf.specs.Largest.{largest, Largest}
+use Rattle.shelf.specs.Picks.{Perm}
+use Rattle.shelf.specs.Picks.Pick.{here}
+use Rattle.shelf.specs.Picks.Perm.{next}
+use Rattle.shelf.specs.Smallest.{Smallest, solution}
+use Rattle.shelf.specs.Times.{NoLater, AtMost, or-zero}
+use Rattle.shelf.proofs.Folds.{most-le}
+use Rattle.shelf.proofs.Maxima.{largest-le, le-largest, largest-is}
+use Rattle.shelf.proofs.Perms.{perm-most}
+use Rattle.shelf.proofs.Solutions.{solution-is, solution-no-later, solution-at-most, solution-below}
+use Rattle.streams.specs.declared.stream.Stream.{Stream}
+use Rattle.streams.specs.Demands.{ceil, demand, horizon, Fit, LawfulCost}
+use Rattle.streams.proofs.Demanding.{ceil-mono, ceil-pos, ceil-le, demand-cons, demand-mono, demand-perm}
+use Rattle.bus.specs.declared.bus.Bus.{Bus}
+use Rattle.bus.specs.Answers.{Waits, BusResponse, BusAnswer}
+use Rattle.bus.specs.Buses.{bus-price, blocking, busy-load, busy-period, queue-load, delay, instance-time, over-instances, bus-time}
+
+-- ---- the loads rise with the time
+module _ (s : Stream) (us ls : List Stream) (own : Fit s) (fit : All Fit us) where
+  lasting : 1 ≤ s .period
+  lasting = omega (arith, own .paced)
+
+  load-is : (t : ℕ) → busy-load s us ls t ≡ blocking ls + (ceil t (s .period) * s .cost + demand us t)
+  load-is t = ap (λ n. blocking ls + n) (demand-cons s us t)
+
+  busy-up : (v w : ℕ) → v ≤ w → busy-load s us ls v ≤ busy-load s us ls w
+  busy-up v w h =
+      omega (arith, load-is v, load-is w, mul-le (ceil v (s .period)) (s .cost) (ceil w (s .period)) (s .cost) (ceil-mono (s .period) v w lasting h) (le-refl (s .cost)), demand-mono us fit v w h)
+
+  pub busy-starts : 1 ≤ busy-load s us ls 1
+  busy-starts =
+      omega (arith, load-is 1, mul-le 1 1 (ceil 1 (s .period)) (s .cost) (ceil-pos (s .period) 1 lasting (le-refl 1)) (own .priced .0))
+
+  queue-up : (a q v w : ℕ) → v ≤ w → queue-load a s us ls q v ≤ queue-load a s us ls q w
+  queue-up a q v w h = omega (arith, demand-mono us fit (v + a) (w + a) (omega arith))
+
+  -- q instances do not fill a busy period that has more
+  unfilled : (l q : ℕ) → q < ceil l (s .period) → q * s .period < l
+  unfilled l q h =
+      ⊎-elim {C = q * s .period < l} (λ k. k) (λ k. absurd (omega (arith, ceil-le (s .period) l q lasting k))) (cases-lt (q * s .period) l)
+
+  module _ (a : ℕ) (short : a ≤ s .cost) where
+    -- each instance of a busy period has a queueing delay, and is done when the busy period ends
+    pub waits : (l q : ℕ) → busy-period s us ls ≡ Some l → q < ceil l (s .period) → (v : ℕ) × (delay a s us ls q ≡ Some v) × (v + s .cost ≤ l)
+    unfolding delay busy-period
+    waits l q e m =
+        let b = subst (Smallest (λ t. t ≡ busy-load s us ls t) 1 horizon) e (solution-is (busy-load s us ls) 1 horizon (omega arith)) in
+        let turns : (q + 1) * s .cost ≤ ceil l (s .period) * s .cost = mul-le (q + 1) (s .cost) (ceil l (s .period)) (s .cost) (omega arith) (le-refl (s .cost)) in
+        let parts : (q + 1) * s .cost ≡ q * s .cost + s .cost = add-mul q 1 (s .cost) ∙ omega arith in
+        let is : l ≡ blocking ls + (ceil l (s .period) * s .cost + demand us l) = b .2 ∙ load-is l in
+        let v = solution-below (queue-load a s us ls q) 0 horizon (l - s .cost) (omega arith) (queue-up a q) (omega arith) (omega arith) (omega (arith, b .1))
+        (omega (arith, is, turns, parts, demand-mono us fit (l - s .cost + a) l (omega (arith, is, turns, parts)))) in
+        (v .0, v .1, omega (arith, v .2, is, turns, parts))
+
+    -- and begins no earlier than it is released: the bus has been busy all along
+    pub begins : (l q w : ℕ) → busy-period s us ls ≡ Some l → q < ceil l (s .period) → delay a s us ls q ≡ Some w → q * s .period ≤ w
+    unfolding delay busy-period
+    begins l q w e m d = ⊎-elim {C = q * s .period ≤ w} (λ early. absurd (idle early)) (λ h. h) (cases-lt w (q * s .period))
+      where
+        idle : w < q * s .period → ⊥
+        idle early =
+            let b = subst (Smallest (λ v. v ≡ queue-load a s us ls q v) 0 horizon) d (solution-is (queue-load a s us ls q) 0 horizon (omega arith)) in
+            let turns : ceil w (s .period) * s .cost ≤ q * s .cost = mul-le (ceil w (s .period)) (s .cost) q (s .cost) (ceil-le (s .period) w q lasting (omega arith)) (le-refl (s .cost)) in
+            let some : 1 ≤ q = ⊎-elim {C = 1 ≤ q} (λ z. let none : q ≡ 0 = omega arith in absurd (omega (arith, ap (λ n. n * s .period) none))) (λ h. h) (cases-lt q 1) in
+            let waited : 1 ≤ w = omega (arith, b .2, mul-le 1 1 q (s .cost) some (own .priced .0)) in
+            let v = solution-below (busy-load s us ls) 1 horizon w (omega arith) busy-up busy-starts waited (b .1) (omega (arith, load-is w, b .2, turns, demand-mono us fit w (w + a) (omega arith))) in
+            let same : v .0 ≡ l = let x = v .1 in let y = e in cc in
+            omega (arith, same, v .2, unfilled l q m)
+
+-- ---- less to wait for, at any time, is no later
+or-zero-le : (o u : Option ℕ) (v : ℕ) → o ≡ Some v → NoLater o u → or-zero u ≤ or-zero o
+or-zero-le None u v e h = let z : _≡_ {A = ℕ} 0 1 = cc in absurd (omega arith)
+or-zero-le (Some t) (Some u) v e h = h
+or-zero-le (Some t) None v e h = absurd h
+
+module _ (a : ℕ) (s : Stream) (us ls us′ ls′ : List Stream) (own : Fit s) (a-pos : 1 ≤ a) (short : a ≤ s .cost) (fit : All Fit us) (fit′ : All Fit us′)
+    (less : (w : ℕ) → 1 ≤ w → blocking ls′ + demand us′ w ≤ blocking ls + demand us w) where
+  delay-no-later : (q : ℕ) → NoLater (delay a s us ls q) (delay a s us′ ls′ q)
+  unfolding delay
+  delay-no-later q =
+      solution-no-later (queue-load a s us ls q) (queue-load a s us′ ls′ q) 0 horizon (omega arith) (queue-up s us′ ls′ own fit′ a q) (omega arith) (λ w h. omega (arith, less (w + a) (omega arith)))
+
+  busy-no-later : NoLater (busy-period s us ls) (busy-period s us′ ls′)
+  unfolding busy-period
+  busy-no-later =
+      solution-no-later (busy-load s us ls) (busy-load s us′ ls′) 1 horizon (omega arith) (busy-up s us′ ls′ own fit′) (busy-starts s us′ ls′ own fit′)
+      (λ w h. omega (arith, load-is s us ls own fit w, load-is s us′ ls′ own fit′ w, less w h))
+
+  instance-le : (l q : ℕ) → busy-period s us ls ≡ Some l → q < ceil l (s .period) → instance-time a s us′ ls′ q ≤ instance-time a s us ls q
+  unfolding instance-time
+  instance-le l q e m =
+      let x = waits s us ls own fit a short l q e m in
+      omega (arith, or-zero-le (delay a s us ls q) (delay a s us′ ls′ q) (x .0) (x .1) (delay-no-later q))
+
+  pub bus-no-later : NoLater (bus-time a s us ls) (bus-time a s us′ ls′)
+  unfolding bus-time
+  bus-no-later = go (busy-period s us ls) (busy-period s us′ ls′) refl busy-no-later
+    where
+      go : (o u : Option ℕ) → busy-period s us ls ≡ o → NoLater o u → NoLater (over-instances o (s .period) (instance-time a s us ls)) (over-instances u (s .period) (instance-time a s us′ ls′))
+      go None u e h = tt
+      go (Some l) None e h = absurd h
+      go (Some l) (Some k) e h =
+          largest-le (instance-time a s us′ ls′) (ceil k (s .period)) (largest (instance-time a s us ls) (ceil l (s .period)))
+          (λ q m. let n : q < ceil l (s .period) = le-trans m (ceil-mono (s .period) k l (lasting s us ls own fit) h) in
+          le-trans (instance-le l q e n) (le-largest (instance-time a s us ls) (ceil l (s .period)) q n))
