@@ -25,11 +25,16 @@ use Rattle.shelf.proofs.Maxima.{largest-le, le-largest, largest-is}
 use Rattle.shelf.proofs.Perms.{perm-most}
 use Rattle.shelf.proofs.Solutions.{solution-is, solution-no-later, solution-at-most, solution-below}
 use Rattle.streams.specs.declared.stream.Stream.{Stream}
-use Rattle.streams.specs.Demands.{ceil, demand, horizon, Fit, LawfulCost}
+use Rattle.streams.specs.Demands.{busy, ceil, demand, horizon, Fit}
 use Rattle.streams.proofs.Demanding.{ceil-mono, ceil-pos, ceil-le, demand-cons, demand-mono, demand-perm}
 use Rattle.bus.specs.declared.bus.Bus.{Bus}
 use Rattle.bus.specs.Answers.{Waits, BusResponse, BusAnswer}
 use Rattle.bus.specs.Buses.{bus-price, blocking, busy-load, busy-period, queue-load, delay, instance-time, over-instances, bus-time}
+
+-- the frame itself is released at once
+pub queue-starts : (s : Stream) (us : List Stream) (block : ℕ) → Fit s → 1 ≤ busy (s ∷ us) block 0 1
+queue-starts s us block own =
+    omega (arith, demand-cons s us 1, mul-le 1 1 (ceil 1 (s .period)) (s .cost) (ceil-pos (s .period) 1 (omega (arith, own .paced)) (le-refl 1)) (own .priced .0))
 
 -- ---- the loads rise with the time
 module _ (s : Stream) (us ls : List Stream) (own : Fit s) (fit : All Fit us) where
@@ -44,8 +49,7 @@ module _ (s : Stream) (us ls : List Stream) (own : Fit s) (fit : All Fit us) whe
       omega (arith, load-is v, load-is w, mul-le (ceil v (s .period)) (s .cost) (ceil w (s .period)) (s .cost) (ceil-mono (s .period) v w lasting h) (le-refl (s .cost)), demand-mono us fit v w h)
 
   pub busy-starts : 1 ≤ busy-load s us ls 1
-  busy-starts =
-      omega (arith, load-is 1, mul-le 1 1 (ceil 1 (s .period)) (s .cost) (ceil-pos (s .period) 1 lasting (le-refl 1)) (own .priced .0))
+  busy-starts = queue-starts s us (blocking ls) own
 
   queue-up : (a q v w : ℕ) → v ≤ w → queue-load a s us ls q v ≤ queue-load a s us ls q w
   queue-up a q v w h = omega (arith, demand-mono us fit (v + a) (w + a) (omega arith))
@@ -119,3 +123,60 @@ module _ (a : ℕ) (s : Stream) (us ls us′ ls′ : List Stream) (own : Fit s) 
           largest-le (instance-time a s us′ ls′) (ceil k (s .period)) (largest (instance-time a s us ls) (ceil l (s .period)))
           (λ q m. let n : q < ceil l (s .period) = le-trans m (ceil-mono (s .period) k l (lasting s us ls own fit) h) in
           le-trans (instance-le l q e n) (le-largest (instance-time a s us ls) (ceil l (s .period)) q n))
+
+-- ---- the answer in words
+module _ (a : ℕ) (s : Stream) (us ls : List Stream) (own : Fit s) (short : a ≤ s .cost) (fit : All Fit us) where
+  delay-is : (q w : ℕ) → delay a s us ls q ≡ Some w → Waits a s us ls q w
+  unfolding delay
+  delay-is q w d = subst (Smallest (λ v. v ≡ queue-load a s us ls q v) 0 horizon) d (solution-is (queue-load a s us ls q) 0 horizon (omega arith))
+
+  -- one instance: it waits, begins no earlier than it is released, and its time is exact
+  instance-is : (l q : ℕ) → busy-period s us ls ≡ Some l → q < ceil l (s .period)
+      → (w : ℕ) × Waits a s us ls q w × (q * s .period ≤ w) × (w + s .cost ≡ instance-time a s us ls q + q * s .period) × (w + s .cost ≤ l)
+  unfolding instance-time
+  instance-is l q e m =
+      let x = waits s us ls own fit a short l q e m in
+      let b = begins s us ls own fit a short l q (x .0) e m (x .1) in
+      (x .0, delay-is q (x .0) (x .1), b, omega (arith, ap or-zero (x .1), b), x .2)
+
+  busy-smallest : (o : Option ℕ) → busy-period s us ls ≡ o → Smallest (λ t. t ≡ busy-load s us ls t) 1 horizon o
+  unfolding busy-period
+  busy-smallest o e = subst (Smallest (λ t. t ≡ busy-load s us ls t) 1 horizon) e (solution-is (busy-load s us ls) 1 horizon (omega arith))
+
+  some-instance : (l : ℕ) → busy-period s us ls ≡ Some l → 0 < ceil l (s .period)
+  some-instance l e = ceil-pos (s .period) l (lasting s us ls own fit) (busy-smallest (Some l) e .0)
+
+  response-is : (l : ℕ) → busy-period s us ls ≡ Some l → BusResponse a s us ls (largest (instance-time a s us ls) (ceil l (s .period)))
+  response-is l e =
+      let times = instance-time a s us ls in
+      let n = ceil l (s .period) in
+      let top = largest-is times n (some-instance l e) in
+      let late = instance-is l (top .place) e (top .within) in
+      let first = instance-is l 0 e (some-instance l e) in
+      record {
+        busy = l;
+        busy-is = busy-smallest (Some l) e;
+        each = λ q m. let x = instance-is l q e m in (x .0, x .1, x .2, omega (arith, x .3, top .most q m));
+        latest = top .place;
+        within = top .within;
+        wait = late .0;
+        waits = late .1;
+        takes = late .3 ∙ ap (λ r. r + top .place * s .period) (sym (top .is));
+        least = omega (arith, first .3, first .2, top .most 0 (some-instance l e));
+        most = omega (arith, late .3, late .4, top .is);
+      }
+
+  pub bus-answer : BusAnswer a s us ls (bus-time a s us ls)
+  unfolding bus-time
+  bus-answer = go (busy-period s us ls) refl
+    where
+      go : (o : Option ℕ) → busy-period s us ls ≡ o → BusAnswer a s us ls (over-instances o (s .period) (instance-time a s us ls))
+      go None e = busy-smallest None e
+      go (Some l) e = response-is l e
+
+  pub bus-bounded : AtMost horizon (bus-time a s us ls)
+  bus-bounded = by (bus-time a s us ls) bus-answer
+    where
+      by : (o : Option ℕ) → BusAnswer a s us ls o → AtMost horizon o
+      by None h = tt
+      by (Some r) h = le-trans (h .most) (h .busy-is .1)

@@ -1,1 +1,3 @@
 pub mod Bussing
+pub mod Instances
+pub mod Wiring

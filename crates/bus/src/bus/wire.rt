@@ -1,10 +1,30 @@
 // The CAN FD bus as a domain.
 ghost use mathlib.Core.List.{[], _∷_};
+ghost use mathlib.Core.Path.{_≡_};
+ghost use Prim.Native.Nat.{_≤_};
+ghost use lib.ListN.{length};
+ghost use Rattle.std.specs.shelf.Lists.{All};
+ghost use Rattle.streams.specs.Demands.{Fit};
 ghost use Rattle.domains.specs.Faults.{Made, limited};
-ghost use Rattle.bus.specs.Buses.{figures};
+ghost use Rattle.kinds.specs.KindLaws.{Own};
+ghost use Rattle.kinds.specs.Rows.{one, alone-cost, alone-response};
+ghost use Rattle.bus.specs.Answers.{BusAnswer};
+ghost use Rattle.bus.specs.Buses.{figures, bus-price, bus-time};
 use crate::bus::Bus;
+use crate::queue::busy_from;
+use domains::domain::Domain;
 use domains::fault::DomainFault;
 use domains::figure::check_figure;
+use domains::place::Place;
+use frames::frame::Frame;
+use frames::row::Row;
+use kinds::alone::answer_alone;
+use kinds::alone::cost_alone;
+use kinds::kind::Kind;
+use streams::demand::releases;
+use streams::settle::settle;
+use streams::stream::Stream;
+use streams::totals::largest_cost;
 
 impl Bus {
     // A bus whose arbitration bits take 1,000 to 8,000 nanoseconds, and its data bits 125 up to as long.
@@ -14,5 +34,63 @@ impl Bus {
         check_figure(1_000, arbitration, 8_000, DomainFault::FirstFigure)?;
         check_figure(125, data, arbitration, DomainFault::SecondFigure)?;
         Ok(Bus { arbitration, data })
+    }
+}
+
+pub impl Kind for Bus as BusKind {
+    ghost price = { bus-price };
+
+    ghost time = { λ b. bus-time (b .arbitration) };
+
+    fn price(&self, payload: u8) -> u64 {
+        let bits = 34 * self.arbitration + (28 + 10 * payload as u64) * self.data;
+        if payload > 16 {
+            bits + 5 * self.data
+        } else {
+            bits
+        }
+    }
+
+    // Every instance of the busy period counts: a later one can be later than the first.
+    fn time(&self, own: Stream, above: &[Stream], below: &[Stream]) -> Option<u64>
+        requires own { ⌜ Own (bus-price (now self)) own ⌝ }
+        requires over { ⌜ All Fit (now above) ⌝ }
+        requires under { ⌜ All Fit (now below) ⌝ }
+        requires few { ⌜ length (now above) ≤ 96 ⌝ }
+        ensures is { λ r. ⌜ r ≡ bus-time (now (self .entry) .arbitration) own (now (above .entry)) (now (below .entry)) ⌝ }
+        ensures words { λ r. ⌜ BusAnswer (now (self .entry) .arbitration) own (now (above .entry)) (now (below .entry)) r ⌝ }
+    {
+        let blocking = largest_cost(below);
+        let busy = busy_from(own, above, blocking)?;
+        let instances = releases(busy, own.period);
+        let mut worst: u64 = 0;
+        let mut known: u64 = 0;
+        for q in 0..instances {
+            let delay = settle(above, blocking + q * own.cost, self.arbitration, 0, known).unwrap();
+            // The next instance waits at least for this one.
+            known = delay + own.cost;
+            worst = worst.max(known - q * own.period);
+        }
+        Some(worst)
+    }
+}
+
+pub impl Domain for Bus as BusDomain {
+    ghost count = { one };
+
+    ghost cost = { alone-cost bus-price };
+
+    ghost response = { alone-response bus-price (λ b. bus-time (b .arbitration)) };
+
+    fn count(&self) -> usize {
+        1
+    }
+
+    fn cost(&self, k: usize, frame: &Frame) -> u64 {
+        cost_alone(self, k, frame)
+    }
+
+    fn answer(&self, k: usize, rows: &[Row], places: &[Place], f: usize) -> Option<u64> {
+        answer_alone(self, k, rows, places, f)
     }
 }
