@@ -2,6 +2,7 @@
 use mathlib.Core.Path.{_≡_, refl, sym, ap, subst, _∙_}
 use mathlib.Core.List.{List, _∷_}
 use mathlib.Core.Logic.{⊎-elim}
+use lib.Dec.{ltb}
 use Prim.Native.Nat.{ℕ, _+_, _-_, _*_, _≤_, _<_, max}
 use native.Mathlib.Omega.{arith}
 use native.Mathlib.Nat.{le-refl, le-trans, add-mul}
@@ -11,7 +12,7 @@ use Rattle.std.specs.declared.option.Option.{Option}
 use Rattle.std.specs.declared.option.Option.the-variants.{Some, None}
 use Rattle.std.proofs.shelf.Bits.{mul-le}
 use Rattle.std.proofs.shelf.Elements.{all-weaker}
-use Rattle.std.proofs.shelf.Tests.{cases-lt}
+use Rattle.std.proofs.shelf.Tests.{cases-lt, cond-true, cond-false, lt-ltb, le-ltb}
 use Rattle.shelf.specs.Folds.{most}
 use Rattle.shelf.specs.Largest.{largest}
 use Rattle.shelf.specs.Smallest.{Smallest, solution}
@@ -21,73 +22,59 @@ use Rattle.shelf.proofs.Solutions.{solution-is, solution-below}
 use Rattle.streams.specs.declared.stream.Stream.{Stream}
 use Rattle.streams.specs.Demands.{busy, ceil, demand, horizon, Fit}
 use Rattle.streams.proofs.Demanding.{ceil-le, demand-mono}
-use Rattle.bus.specs.Buses.{blocking, busy-period, queue-load, delay, instance-time, over-instances, bus-time}
+use Rattle.bus.specs.Buses.{blocking, busy-period, queue-load, delay, instance-time, over-instances, of-instance, response-by, instance-by}
 
 -- q instances are seen: the worst of them, and a time before which instance q does not start
-pub record Instances (a : ℕ) (s : Stream) (us ls : List Stream) (q worst known : ℕ) : Type 0 where
-  pub worst-is : worst ≡ largest (instance-time a s us ls) q
-  pub rises : known ≤ queue-load a s us ls q known
-  pub below : (v : ℕ) → v ≡ queue-load a s us ls q v → known ≤ v
+pub record Instances (a : ℕ) (s : Stream) (us : List Stream) (b : ℕ) (q worst known : ℕ) : Type 0 where
+  pub worst-is : worst ≡ largest (instance-time a s us b) q
+  pub rises : known ≤ queue-load a s us b q known
+  pub below : (v : ℕ) → v ≡ queue-load a s us b q v → known ≤ v
 
-module _ (a : ℕ) (s : Stream) (us ls : List Stream) where
-  pub instances-none : Instances a s us ls 0 0 0
+module _ (a : ℕ) (s : Stream) (us : List Stream) (b : ℕ) where
+  pub instances-none : Instances a s us b 0 0 0
   instances-none = record { worst-is = refl; rises = omega arith; below = λ v e. omega arith }
 
-  module _ (own : Fit s) (fit : All Fit us) (q w : ℕ) (waits : delay a s us ls q ≡ Some w) where
-    waited : Smallest (λ v. v ≡ queue-load a s us ls q v) 0 horizon (Some w)
+  module _ (own : Fit s) (fit : All Fit us) (q w : ℕ) (waits : delay a s us b q ≡ Some w) where
+    waited : Smallest (λ v. v ≡ queue-load a s us b q v) 0 horizon (Some w)
     unfolding delay
-    waited = subst (Smallest (λ v. v ≡ queue-load a s us ls q v) 0 horizon) waits (solution-is (queue-load a s us ls q) 0 horizon (omega arith))
+    waited = subst (Smallest (λ v. v ≡ queue-load a s us b q v) 0 horizon) waits (solution-is (queue-load a s us b q) 0 horizon (omega arith))
 
     parts : (q + 1) * s .cost ≡ q * s .cost + s .cost
     parts = add-mul q 1 (s .cost) ∙ omega arith
 
     -- the next instance does not start before this one is done
-    next-rises : w + s .cost ≤ queue-load a s us ls (q + 1) (w + s .cost)
+    next-rises : w + s .cost ≤ queue-load a s us b (q + 1) (w + s .cost)
     next-rises = omega (arith, parts, waited .2, demand-mono us fit (w + a) (w + s .cost + a) (omega arith))
 
-    next-below : (v : ℕ) → v ≡ queue-load a s us ls (q + 1) v → w + s .cost ≤ v
+    next-below : (v : ℕ) → v ≡ queue-load a s us b (q + 1) v → w + s .cost ≤ v
     unfolding delay
     next-below v e =
-        let earlier : queue-load a s us ls q (v - s .cost) ≤ v - s .cost = omega (arith, parts, e, demand-mono us fit (v - s .cost + a) (v + a) (omega arith)) in
+        let earlier : queue-load a s us b q (v - s .cost) ≤ v - s .cost = omega (arith, parts, e, demand-mono us fit (v - s .cost + a) (v + a) (omega arith)) in
         ⊎-elim {C = w + s .cost ≤ v} (λ far. omega (arith, waited .1, parts, e))
         (λ near.
-        let b = solution-below (queue-load a s us ls q) 0 horizon (v - s .cost) (omega arith) (λ x y h. omega (arith, demand-mono us fit (x + a) (y + a) (omega arith))) (omega arith) (omega arith) near earlier in
-        let same : b .0 ≡ w = let x = b .1 in let y = waits in cc in
-        omega (arith, same, b .2, parts, e)) (cases-lt horizon (v - s .cost))
+        let found = solution-below (queue-load a s us b q) 0 horizon (v - s .cost) (omega arith) (λ x y h. omega (arith, demand-mono us fit (x + a) (y + a) (omega arith))) (omega arith) (omega arith) near earlier in
+        let same : found .0 ≡ w = let x = found .1 in let y = waits in cc in
+        omega (arith, same, found .2, parts, e)) (cases-lt horizon (v - s .cost))
 
-    pub instances-more : (worst known m k : ℕ) → Instances a s us ls q worst known → k ≡ w + s .cost → m ≡ max worst (k - q * s .period) → Instances a s us ls (q + 1) m k
+    pub instances-more : (worst known m k : ℕ) → Instances a s us b q worst known → k ≡ w + s .cost → m ≡ max worst (k - q * s .period) → Instances a s us b (q + 1) m k
     unfolding instance-time
     instances-more worst known m k inv e f =
-        let time : k - q * s .period ≡ instance-time a s us ls q = ap (λ n. n - q * s .period) (e ∙ ap (λ o. or-zero o + s .cost) (sym waits)) in
-        let step : m ≡ max (instance-time a s us ls q) (largest (instance-time a s us ls) q) = omega (arith, f, time, inv .worst-is) in
+        let time : k - q * s .period ≡ instance-time a s us b q = ap (λ n. n - q * s .period) (e ∙ ap (λ o. or-zero o + s .cost) (sym waits)) in
+        let step : m ≡ max (instance-time a s us b q) (largest (instance-time a s us b) q) = omega (arith, f, time, inv .worst-is) in
         record {
-          worst-is = step ∙ ap (largest (instance-time a s us ls)) (sym (add-one q));
-          rises = subst (λ (n : ℕ). n ≤ queue-load a s us ls (q + 1) n) (sym e) next-rises;
+          worst-is = step ∙ ap (largest (instance-time a s us b)) (sym (add-one q));
+          rises = subst (λ (n : ℕ). n ≤ queue-load a s us b (q + 1) n) (sym e) next-rises;
           below = λ v x. omega (arith, e, next-below v x);
         }
 
--- ---- what the code holds, and what it means
-module _ (a : ℕ) (s : Stream) (us ls : List Stream) (b : ℕ) (blocked : b ≡ most (λ x. x .cost) ls) where
-  pub busy-found : (o : Option ℕ) → o ≡ solution (λ t. b + demand (s ∷ us) t) 1 horizon → o ≡ busy-period s us ls
-  unfolding busy-period blocking
-  busy-found o e = e ∙ ap (λ n. solution (λ t. n + demand (s ∷ us) t) 1 horizon) blocked
-
-  pub delay-found : (q : ℕ) (o : Option ℕ) → o ≡ solution (busy us (b + q * s .cost) a) 0 horizon → o ≡ delay a s us ls q
-  unfolding delay blocking
-  delay-found q o e = e ∙ ap (λ n. solution (λ w. (n + q * s .cost) + demand us (w + a)) 0 horizon) blocked
-
-  module _ (q worst known : ℕ) (inv : Instances a s us ls q worst known) where
-    pub known-rises : max 0 known ≤ busy us (b + q * s .cost) a (max 0 known)
-    unfolding blocking
-    known-rises = let e : known ≡ max 0 known = omega arith in subst (λ (n : ℕ). n ≤ busy us (b + q * s .cost) a n) e (omega (arith, blocked, inv .rises))
-
-    pub known-below : (v : ℕ) → v ≡ busy us (b + q * s .cost) a v → known ≤ v
-    unfolding blocking
-    known-below v e = inv .below v (e ∙ ap (λ n. (n + q * s .cost) + demand us (v + a)) blocked)
+pub blocking-is : (below : List Stream) (b : ℕ) → b ≡ most (λ x. x .cost) below → b ≡ blocking below
+unfolding blocking
+blocking-is below b e = e
 
 -- the blocking fits, and so do the instances of a busy period
-pub blocked-le : (ls : List Stream) → All Fit ls → most (λ x. x .cost) ls ≤ 20000000
-blocked-le ls fit = most-le (λ x. x .cost) 20000000 ls (all-weaker Fit (λ x. x .cost ≤ 20000000) (λ x f. f .priced .1) ls fit)
+pub blocked-le : (below : List Stream) → All Fit below → blocking below ≤ 20000000
+unfolding blocking
+blocked-le below fit = most-le (λ x. x .cost) 20000000 below (all-weaker Fit (λ x. x .cost ≤ 20000000) (λ x f. f .priced .1) below fit)
 
 pub few-instances : (s : Stream) → Fit s → (l q : ℕ) → l ≤ horizon → q < ceil l (s .period) → (q ≤ 4000) × (q * s .cost ≤ 80000000000)
 few-instances s own l q h m =
@@ -95,12 +82,27 @@ few-instances s own l q h m =
     (n, mul-le q (s .cost) 4000 20000000 n (own .priced .1))
 
 -- the answer, by the busy period
-module _ (a : ℕ) (s : Stream) (us ls : List Stream) where
-  pub no-end : None ≡ busy-period s us ls → None ≡ bus-time a s us ls
-  unfolding bus-time
-  no-end e = ap (λ o. over-instances o (s .period) (instance-time a s us ls)) e
+module _ (a : ℕ) (s : Stream) (us : List Stream) (b : ℕ) where
+  pub no-end : None ≡ busy-period s us b → None ≡ response-by a s us b
+  unfolding response-by
+  no-end e = ap (λ o. over-instances o (s .period) (instance-time a s us b)) e
 
-  pub worst-found : (l n worst : ℕ) → Some l ≡ busy-period s us ls → n ≡ ceil l (s .period) → worst ≡ largest (instance-time a s us ls) n → Some worst ≡ bus-time a s us ls
-  unfolding bus-time
+  pub worst-found : (l n worst : ℕ) → Some l ≡ busy-period s us b → n ≡ ceil l (s .period) → worst ≡ largest (instance-time a s us b) n → Some worst ≡ response-by a s us b
+  unfolding response-by
   worst-found l n worst e k w =
-      ap Some (w ∙ ap (largest (instance-time a s us ls)) k) ∙ ap (λ o. over-instances o (s .period) (instance-time a s us ls)) e
+      ap Some (w ∙ ap (largest (instance-time a s us b)) k) ∙ ap (λ o. over-instances o (s .period) (instance-time a s us b)) e
+
+  pub instance-none : None ≡ busy-period s us b → (q : ℕ) → None ≡ instance-by a s us b q
+  unfolding instance-by
+  instance-none e q = ap (λ o. of-instance o (s .period) (instance-time a s us b) q) e
+
+  pub instance-past : (l q : ℕ) → Some l ≡ busy-period s us b → ceil l (s .period) ≤ q → None ≡ instance-by a s us b q
+  unfolding instance-by
+  instance-past l q e h =
+      sym (cond-false (ltb q (ceil l (s .period))) _ _ (le-ltb q (ceil l (s .period)) h)) ∙ ap (λ o. of-instance o (s .period) (instance-time a s us b) q) e
+
+  pub instance-found : (l q w : ℕ) → Some l ≡ busy-period s us b → q < ceil l (s .period) → delay a s us b q ≡ Some w → Some ((w + s .cost) - q * s .period) ≡ instance-by a s us b q
+  unfolding instance-by instance-time
+  instance-found l q w e h d =
+      ap (λ o. Some ((or-zero o + s .cost) - q * s .period)) (sym d)
+      ∙ sym (cond-true (ltb q (ceil l (s .period))) _ _ (lt-ltb q (ceil l (s .period)) h)) ∙ ap (λ o. of-instance o (s .period) (instance-time a s us b) q) e

@@ -21,8 +21,8 @@ use Rattle.streams.specs.Demands.{ceil, demand, horizon, Fit, LawfulCost}
 use Rattle.streams.proofs.Demanding.{ceil-pos, demand-cons, demand-perm}
 use Rattle.kinds.specs.KindLaws.{KindLaws, Own}
 use Rattle.bus.specs.declared.bus.Bus.{Bus}
-use Rattle.bus.specs.Buses.{bus-price, blocking, busy-load, busy-period, queue-load, delay, instance-time, over-instances, bus-time}
-use Rattle.bus.proofs.Bussing.{bus-no-later, bus-bounded}
+use Rattle.bus.specs.Buses.{bus-price, blocking, busy-load, busy-period, queue-load, delay, instance-time, over-instances, response-by, bus-time}
+use Rattle.bus.proofs.Bussing.{response-no-later, response-bounded}
 
 -- ---- costs
 extra-le : (b : Bool) (x : ℕ) → cond b x 0 ≤ x
@@ -51,17 +51,17 @@ price-grows d p q h =
 -- ---- the order of the frames
 module _ (a : ℕ) (s : Stream) where
   by-loads : ℕ → (ℕ → ℕ) → (ℕ → ℕ) → Option ℕ
-  by-loads block all ask =
-      over-instances (solution (λ t. block + all t) 1 horizon) (s .period) (λ q. (or-zero (solution (λ w. (block + q * s .cost) + ask (w + a)) 0 horizon) + s .cost) - q * s .period)
+  by-loads b all ask =
+      over-instances (solution (λ t. b + all t) 1 horizon) (s .period) (λ q. (or-zero (solution (λ w. (b + q * s .cost) + ask (w + a)) 0 horizon) + s .cost) - q * s .period)
 
   above-order : (us us′ ls : List Stream) → Perm us us′ → bus-time a s us ls ≡ bus-time a s us′ ls
-  unfolding bus-time busy-period instance-time delay by-loads
+  unfolding response-by busy-period instance-time delay by-loads
   above-order us us′ ls p =
       ap₂ (by-loads (blocking ls)) (fun-ext (demand-perm (next {x = s} (here refl) p))) (fun-ext (demand-perm p))
 
   below-order : (us ls ls′ : List Stream) → Perm ls ls′ → bus-time a s us ls ≡ bus-time a s us ls′
-  unfolding bus-time busy-period instance-time delay by-loads blocking
-  below-order us ls ls′ p = ap (λ b. by-loads b (demand (s ∷ us)) (demand us)) (perm-most (λ x. x .cost) p)
+  unfolding blocking
+  below-order us ls ls′ p = ap (response-by a s us) (perm-most (λ x. x .cost) p)
 
 -- ---- frames taken out or moved down
 a-pos : (d : Bus) → 1 ≤ d .arbitration
@@ -80,11 +80,11 @@ bus-kept = record {
   grows = λ d p q h l. price-grows d p q h;
   above-order = λ d s us us′ ls p. above-order (d .arbitration) s us us′ ls p;
   below-order = λ d s us ls ls′ p. below-order (d .arbitration) s us ls ls′ p;
-  bounded = λ d s us ls o m n. bus-bounded (d .arbitration) s us ls (o .fit) (short d s o) m;
-  drop-above = λ d s x us ls o y m n. bus-no-later (d .arbitration) s (x ∷ us) ls us ls (o .fit) (a-pos d) (short d s o) (y, m) m
+  bounded = λ d s us ls o m n. response-bounded (d .arbitration) s us (blocking ls) (o .fit) (short d s o) m;
+  drop-above = λ d s x us ls o y m n. response-no-later (d .arbitration) s (x ∷ us) (blocking ls) us (blocking ls) (o .fit) (a-pos d) (short d s o) (y, m) m
       (λ w h. omega (arith, demand-cons x us w));
-  drop-below = λ d s x us ls o y m n. bus-no-later (d .arbitration) s us (x ∷ ls) us ls (o .fit) (a-pos d) (short d s o) m m
+  drop-below = λ d s x us ls o y m n. response-no-later (d .arbitration) s us (blocking (x ∷ ls)) us (blocking ls) (o .fit) (a-pos d) (short d s o) m m
       (λ w h. omega (arith, blocking-cons x ls));
-  move-down = λ d s x us ls o y m n. bus-no-later (d .arbitration) s (x ∷ us) ls us (x ∷ ls) (o .fit) (a-pos d) (short d s o) (y, m) m
+  move-down = λ d s x us ls o y m n. response-no-later (d .arbitration) s (x ∷ us) (blocking ls) us (blocking (x ∷ ls)) (o .fit) (a-pos d) (short d s o) (y, m) m
       (λ w h. omega (arith, blocking-cons x ls, demand-cons x us w, mul-le 1 (x .cost) (ceil w (x .period)) (x .cost) (ceil-pos (x .period) w (omega (arith, y .paced)) h) (le-refl (x .cost))));
 }

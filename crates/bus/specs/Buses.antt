@@ -24,26 +24,26 @@ bus-price b p = 34 * b .arbitration + (28 + 10 * p) * b .«data» + cond (ltb 16
 unfoldable pub blocking : List Stream → ℕ
 blocking below = most (λ s. s .cost) below
 
--- what keeps the bus busy up to t: the blocking, and all that the frame and those above it release before t
-abbrev pub busy-load : Stream → List Stream → List Stream → ℕ → ℕ
-busy-load s above below t = blocking below + demand (s ∷ above) t
+-- what keeps the bus busy up to t: a blocking b, and all that the frame and those above it release before t
+abbrev pub busy-load : Stream → List Stream → ℕ → ℕ → ℕ
+busy-load s above b t = b + demand (s ∷ above) t
 
 -- L: the smallest t ≥ 1 at which that is done
-unfoldable pub busy-period : Stream → List Stream → List Stream → Option ℕ
-busy-period s above below = solution (busy-load s above below) 1 horizon
+unfoldable pub busy-period : Stream → List Stream → ℕ → Option ℕ
+busy-period s above b = solution (busy-load s above b) 1 horizon
 
 -- what goes before instance q when it has waited for w: the blocking, the instances before it, and all that those above
 -- release up to the end of the arbitration bit in which it would start
-abbrev pub queue-load : ℕ → Stream → List Stream → List Stream → ℕ → ℕ → ℕ
-queue-load a s above below q w = (blocking below + q * s .cost) + demand above (w + a)
+abbrev pub queue-load : ℕ → Stream → List Stream → ℕ → ℕ → ℕ → ℕ
+queue-load a s above b q w = (b + q * s .cost) + demand above (w + a)
 
 -- W(q), the queueing delay of instance q: the smallest w ≥ 0 at which that is done
-unfoldable pub delay : ℕ → Stream → List Stream → List Stream → ℕ → Option ℕ
-delay a s above below q = solution (queue-load a s above below q) 0 horizon
+unfoldable pub delay : ℕ → Stream → List Stream → ℕ → ℕ → Option ℕ
+delay a s above b q = solution (queue-load a s above b q) 0 horizon
 
 -- the response time of instance q, from its own release: W(q) + C − q × T
-unfoldable pub instance-time : ℕ → Stream → List Stream → List Stream → ℕ → ℕ
-instance-time a s above below q = (or-zero (delay a s above below q) + s .cost) - q * s .period
+unfoldable pub instance-time : ℕ → Stream → List Stream → ℕ → ℕ → ℕ
+instance-time a s above b q = (or-zero (delay a s above b q) + s .cost) - q * s .period
 
 -- over all instances of the busy period, if it ends
 abbrev pub over-instances : Option ℕ → ℕ → (ℕ → ℕ) → Option ℕ
@@ -51,13 +51,23 @@ over-instances None period times = None
 over-instances (Some l) period times = Some (largest times (ceil l period))
 
 -- the largest response time among the ⌈L / T⌉ instances of the busy period
-unfoldable pub bus-time : ℕ → Stream → List Stream → List Stream → Option ℕ
-bus-time a s above below = over-instances (busy-period s above below) (s .period) (instance-time a s above below)
+unfoldable pub response-by : ℕ → Stream → List Stream → ℕ → Option ℕ
+response-by a s above b = over-instances (busy-period s above b) (s .period) (instance-time a s above b)
 
 -- the response time of one instance of the busy period; none past its end
 abbrev pub of-instance : Option ℕ → ℕ → (ℕ → ℕ) → ℕ → Option ℕ
 of-instance None period times q = None
 of-instance (Some l) period times q = cond (ltb q (ceil l period)) (Some (times q)) None
 
-unfoldable pub bus-instance : ℕ → ℕ → Stream → List Stream → List Stream → Option ℕ
-bus-instance a q s above below = of-instance (busy-period s above below) (s .period) (instance-time a s above below) q
+unfoldable pub instance-by : ℕ → Stream → List Stream → ℕ → ℕ → Option ℕ
+instance-by a s above b q = of-instance (busy-period s above b) (s .period) (instance-time a s above b) q
+
+-- with the blocking of the frames below: the answer, its busy period, and its instance q
+abbrev pub bus-time : ℕ → Stream → List Stream → List Stream → Option ℕ
+bus-time a s above below = response-by a s above (blocking below)
+
+abbrev pub bus-busy : Stream → List Stream → List Stream → Option ℕ
+bus-busy s above below = busy-period s above (blocking below)
+
+abbrev pub bus-instance : ℕ → ℕ → Stream → List Stream → List Stream → Option ℕ
+bus-instance a q s above below = instance-by a s above (blocking below) q

@@ -9,4 +9,6 @@ pub struct Bus {
     ghost sends: { LawfulData arbitration «data» },
 }
 
+mod delay;
+pub mod trace;
 pub mod wire;

@@ -4,9 +4,9 @@ ghost use mathlib.Core.Path.{_≡_};
 ghost use Prim.Native.Nat.{_+_, _≤_};
 ghost use lib.ListN.{length, take};
 ghost use Rattle.std.specs.shelf.Lists.{All};
-ghost use Rattle.shelf.specs.Smallest.{solution};
 ghost use Rattle.shelf.specs.Times.{AtMost};
-ghost use Rattle.streams.specs.Demands.{demand, horizon, Fit};
+ghost use Rattle.streams.specs.Demands.{horizon, Fit};
+ghost use Rattle.bus.specs.Buses.{busy-period};
 use streams::settle::settle;
 use streams::stream::Stream;
 
@@ -22,15 +22,15 @@ fn queue_of(own: Stream, above: &[Stream]) -> [Stream; 97]
     queue
 }
 
-// The smallest time from 1 to the horizon at which the blocking and all that the queue releases before it are done.
-pub(crate) fn busy_from(own: Stream, above: &[Stream], blocking: u64) -> Option<u64>
+// With the blocking b, the busy period of the frame and those above it.
+pub(crate) fn busy_from(own: Stream, above: &[Stream], b: u64) -> Option<u64>
     requires own { ⌜ Fit own ⌝ }
     requires over { ⌜ All Fit (now above) ⌝ }
     requires few { ⌜ length (now above) ≤ 96 ⌝ }
-    requires blocked { ⌜ blocking ≤ 20000000 ⌝ }
-    ensures is { λ r. ⌜ r ≡ solution (λ t. blocking + demand (own ∷ now (above .entry)) t) 1 horizon ⌝ }
+    requires blocked { ⌜ b ≤ 20000000 ⌝ }
+    ensures is { λ r. ⌜ r ≡ busy-period own (now (above .entry)) b ⌝ }
     ensures soon { λ r. ⌜ AtMost horizon r ⌝ }
 {
     let queue = queue_of(own, above);
-    settle(&queue[0..above.len() + 1], blocking, 0, 1, 0)
+    settle(&queue[0..above.len() + 1], b, 0, 1, 0)
 }

@@ -13,6 +13,10 @@ use Rattle.streams.specs.declared.stream.Stream.{Stream}
 abbrev pub stream-by : (ℕ → ℕ) → Row → Stream
 stream-by price r = record { cost = price (payload (r .fill)); period = r .period }
 
+-- a meaning over streams, asked about rows
+abbrev pub of-streams : (ℕ → ℕ) → (Stream → List Stream → List Stream → Option ℕ) → Row → List Row → List Row → Option ℕ
+of-streams price time f above below = time (stream-by price f) (map (stream-by price) above) (map (stream-by price) below)
+
 abbrev pub one : {D : Type 0} → D → ℕ
 one d = 1
 
@@ -23,4 +27,4 @@ alone-cost price d k p = cond (eqb k 0) (price d p) 0
 -- any other number has no answer
 abbrev pub alone-response : {D : Type 0} → (D → ℕ → ℕ) → (D → Stream → List Stream → List Stream → Option ℕ) → D → ℕ → Row → List Row → List Row → Option ℕ
 alone-response price time d k f above below =
-    cond (eqb k 0) (time d (stream-by (price d) f) (map (stream-by (price d)) above) (map (stream-by (price d)) below)) None
+    cond (eqb k 0) (of-streams (price d) (time d) f above below) None

@@ -9,7 +9,7 @@ ghost use Rattle.domains.specs.Faults.{Made, limited};
 ghost use Rattle.kinds.specs.KindLaws.{Own};
 ghost use Rattle.kinds.specs.Rows.{one, alone-cost, alone-response};
 ghost use Rattle.bus.specs.Answers.{BusAnswer};
-ghost use Rattle.bus.specs.Buses.{figures, bus-price, bus-time};
+ghost use Rattle.bus.specs.Buses.{figures, bus-price, blocking, bus-time};
 use crate::bus::Bus;
 use crate::queue::busy_from;
 use domains::domain::Domain;
@@ -22,7 +22,6 @@ use kinds::alone::answer_alone;
 use kinds::alone::cost_alone;
 use kinds::kind::Kind;
 use streams::demand::releases;
-use streams::settle::settle;
 use streams::stream::Stream;
 use streams::totals::largest_cost;
 
@@ -58,17 +57,16 @@ pub impl Kind for Bus as BusKind {
         requires under { ⌜ All Fit (now below) ⌝ }
         requires few { ⌜ length (now above) ≤ 96 ⌝ }
         ensures is { λ r. ⌜ r ≡ bus-time (now (self .entry) .arbitration) own (now (above .entry)) (now (below .entry)) ⌝ }
-        ensures words { λ r. ⌜ BusAnswer (now (self .entry) .arbitration) own (now (above .entry)) (now (below .entry)) r ⌝ }
+        ensures words { λ r. ⌜ BusAnswer (now (self .entry) .arbitration) own (now (above .entry)) (blocking (now (below .entry))) r ⌝ }
     {
-        let blocking = largest_cost(below);
-        let busy = busy_from(own, above, blocking)?;
+        let b = largest_cost(below);
+        let busy = busy_from(own, above, b)?;
         let instances = releases(busy, own.period);
         let mut worst: u64 = 0;
         let mut known: u64 = 0;
         for q in 0..instances {
-            let delay = settle(above, blocking + q * own.cost, self.arbitration, 0, known).unwrap();
-            // The next instance waits at least for this one.
-            known = delay + own.cost;
+            // The next instance waits at least until this one is done.
+            known = self.delay_of(own, above, b, busy, q, known) + own.cost;
             worst = worst.max(known - q * own.period);
         }
         Some(worst)
