@@ -48,14 +48,14 @@ module _ (s : Stream) (us : List Stream) (b : ℕ) (own : Fit s) (fit : All Fit 
   load-is : (t : ℕ) → busy-load s us b t ≡ b + (ceil t (s .period) * s .cost + demand us t)
   load-is t = ap (λ n. b + n) (demand-cons s us t)
 
-  busy-up : (v w : ℕ) → v ≤ w → busy-load s us b v ≤ busy-load s us b w
+  pub busy-up : (v w : ℕ) → v ≤ w → busy-load s us b v ≤ busy-load s us b w
   busy-up v w h =
       omega (arith, load-is v, load-is w, mul-le (ceil v (s .period)) (s .cost) (ceil w (s .period)) (s .cost) (ceil-mono (s .period) v w lasting h) (le-refl (s .cost)), demand-mono us fit v w h)
 
   pub busy-starts : 1 ≤ busy-load s us b 1
   busy-starts = queue-starts s us (b) own
 
-  queue-up : (a q v w : ℕ) → v ≤ w → queue-load a s us b q v ≤ queue-load a s us b q w
+  pub queue-up : (a q v w : ℕ) → v ≤ w → queue-load a s us b q v ≤ queue-load a s us b q w
   queue-up a q v w h = omega (arith, demand-mono us fit (v + a) (w + a) (omega arith))
 
   -- q instances do not fill a busy period that has more

@@ -37,3 +37,7 @@ busy streams base ahead w = base + demand streams (w + ahead)
 -- the costs of the streams together
 unfoldable pub total : List Stream → ℕ
 total streams = sumBy (λ s. s .cost) streams
+
+-- cost × 1,000,000 / period, rounded up: the millionths of a domain that a stream takes
+unfoldable pub weight : Stream → ℕ
+weight s = ceil (s .cost * 1000000) (s .period)

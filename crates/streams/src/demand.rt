@@ -1,21 +1,11 @@
 // What streams demand of a domain in a time.
 ghost use mathlib.Core.Path.{_≡_};
-ghost use Prim.Native.Nat.{_*_, _≤_, _<_};
+ghost use Prim.Native.Nat.{_*_, _≤_};
 ghost use lib.ListN.{length};
 ghost use Rattle.std.specs.shelf.Lists.{All};
-ghost use Rattle.streams.specs.Demands.{ceil, demand, Fit, Rounded};
+ghost use Rattle.streams.specs.Demands.{ceil, demand, Fit};
+use crate::rounding::div_up;
 use crate::stream::Stream;
-
-// How many instances of a stream are released in the time w: w / period, rounded up.
-pub fn releases(w: u64, period: u64) -> u64
-    requires paced { ⌜ 0 < period ⌝ }
-    requires soon { ⌜ w ≤ 4000008000 ⌝ }
-    requires bounded { ⌜ period ≤ 2000000000 ⌝ }
-    ensures is { λ r. ⌜ r ≡ ceil w period ⌝ }
-    ensures rounded { λ r. ⌜ Rounded w period r ⌝ }
-{
-    (w + (period - 1)) / period
-}
 
 // The time that the instances of a stream take that are released in the time w.
 fn share(stream: &Stream, w: u64) -> u64
@@ -24,7 +14,7 @@ fn share(stream: &Stream, w: u64) -> u64
     ensures is { λ r. ⌜ r ≡ ceil w (now (stream .entry) .period) * now (stream .entry) .cost ⌝ }
     ensures low { λ r. ⌜ r ≤ 80020000000 ⌝ }
 {
-    releases(w, stream.period) * stream.cost
+    div_up(w, stream.period) * stream.cost
 }
 
 // The time that the instances of all streams take that are released in the time w.

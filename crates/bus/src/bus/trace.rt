@@ -14,7 +14,7 @@ use crate::queue::busy_from;
 use domains::place::Place;
 use frames::row::Row;
 use kinds::look::look;
-use streams::demand::releases;
+use streams::rounding::div_up;
 use streams::stream::Stream;
 use streams::totals::largest_cost;
 
@@ -48,7 +48,7 @@ impl Bus {
     {
         let b = largest_cost(below);
         let busy = busy_from(own, above, b)?;
-        if q >= releases(busy, own.period) {
+        if q >= div_up(busy, own.period) {
             return None;
         }
         Some(self.delay_of(own, above, b, busy, q, 0) + own.cost - q * own.period)

@@ -21,7 +21,7 @@ use frames::row::Row;
 use kinds::alone::answer_alone;
 use kinds::alone::cost_alone;
 use kinds::kind::Kind;
-use streams::demand::releases;
+use streams::rounding::div_up;
 use streams::stream::Stream;
 use streams::totals::largest_cost;
 
@@ -61,7 +61,7 @@ pub impl Kind for Bus as BusKind {
     {
         let b = largest_cost(below);
         let busy = busy_from(own, above, b)?;
-        let instances = releases(busy, own.period);
+        let instances = div_up(busy, own.period);
         let mut worst: u64 = 0;
         let mut known: u64 = 0;
         for q in 0..instances {

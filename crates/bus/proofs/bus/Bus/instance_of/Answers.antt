@@ -16,10 +16,10 @@ returns-in-Break-busy c =
     c .from-residual .ensures ∙ instance-none a (c .args .own) (c .args .above .now) _ (c .in-Break-busy .ensures tt .is) (c .args .q)
     ∙ ap (λ b. instance-by a (c .args .own) (c .args .above .now) b (c .args .q)) (blocking-is _ _ (c .largest-cost-b .ensures))
 
-pub returns-then-q-releases : need.returns-then-q-releases
-returns-then-q-releases c =
+pub returns-then-q-div-up : need.returns-then-q-div-up
+returns-then-q-div-up c =
     let a = c .args .self .now .arbitration in
-    let past : ceil (c .in-Continue-busy .busy) (c .args .own .period) ≤ c .args .q = omega (arith, c .releases .ensures .is) in
+    let past : ceil (c .in-Continue-busy .busy) (c .args .own .period) ≤ c .args .q = omega (arith, c .div-up .ensures .is) in
     instance-past a (c .args .own) (c .args .above .now) _ (c .in-Continue-busy .busy) (c .args .q) (c .in-Continue-busy .ensures tt .is) past
     ∙ ap (λ b. instance-by a (c .args .own) (c .args .above .now) b (c .args .q)) (blocking-is _ _ (c .largest-cost-b .ensures))
 
@@ -31,7 +31,7 @@ delay-of-requires c κs =
       few = c .pre .few;
       blocked = omega (arith, blocking-is _ _ (c .largest-cost-b .ensures), blocked-le (c .args .below .now) (c .pre .under));
       busy = c .in-Continue-busy .ensures tt .is;
-      within = omega (arith, c .releases .ensures .is);
+      within = omega (arith, c .div-up .ensures .is);
       rises = omega arith;
       below = λ v e. omega arith;
     }
@@ -42,6 +42,6 @@ sub-result c = omega (arith, c .delay-of .ensures .begins)
 pub returns : need.returns
 returns c =
     let a = c .args .self .now .arbitration in
-    let in-busy : c .args .q < ceil (c .in-Continue-busy .busy) (c .args .own .period) = omega (arith, c .releases .ensures .is) in
+    let in-busy : c .args .q < ceil (c .in-Continue-busy .busy) (c .args .own .period) = omega (arith, c .div-up .ensures .is) in
     instance-found a (c .args .own) (c .args .above .now) _ (c .in-Continue-busy .busy) (c .args .q) (c .delay-of .result) (c .in-Continue-busy .ensures tt .is) in-busy (c .delay-of .ensures .is)
     ∙ ap (λ b. instance-by a (c .args .own) (c .args .above .now) b (c .args .q)) (blocking-is _ _ (c .largest-cost-b .ensures))

@@ -32,7 +32,7 @@ delay-of-requires c κs =
       few = c .pre .few;
       blocked = omega (arith, blocking-is _ _ (c .largest-cost-b .ensures), blocked-le (c .args .below .now) (c .pre .under));
       busy = c .in-Continue-busy .ensures tt .is;
-      within = omega (arith, c .releases-instances .ensures .is);
+      within = omega (arith, c .div-up-instances .ensures .is);
       rises = c .loop-q .inv .rises;
       below = c .loop-q .inv .below;
     }
@@ -49,6 +49,6 @@ returns c =
     let a = c .args .self .now .arbitration in
     let own = c .args .own in
     let us = c .args .above .now in
-    let all : c .loop-q .q ≡ c .releases-instances .result = omega arith in
-    let is = worst-found a own us _ (c .in-Continue-busy .busy) (c .loop-q .q) (c .loop-q .worst) (c .in-Continue-busy .ensures tt .is) (all ∙ c .releases-instances .ensures .is) (c .loop-q .inv .worst-is) ∙ ap (response-by a own us) (blocking-is _ _ (c .largest-cost-b .ensures)) in
+    let all : c .loop-q .q ≡ c .div-up-instances .result = omega arith in
+    let is = worst-found a own us _ (c .in-Continue-busy .busy) (c .loop-q .q) (c .loop-q .worst) (c .in-Continue-busy .ensures tt .is) (all ∙ c .div-up-instances .ensures .is) (c .loop-q .inv .worst-is) ∙ ap (response-by a own us) (blocking-is _ _ (c .largest-cost-b .ensures)) in
     record { is = is; words = subst (BusAnswer a own us (blocking (c .args .below .now))) (sym is) (response-answer a own us (blocking (c .args .below .now)) (c .pre .own .fit) (short (c .args .self .now) own (c .pre .own)) (c .pre .over)) }
