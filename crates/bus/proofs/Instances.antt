@@ -11,13 +11,11 @@ use Rattle.std.specs.shelf.Lists.{All}
 use Rattle.std.specs.declared.option.Option.{Option}
 use Rattle.std.specs.declared.option.Option.the-variants.{Some, None}
 use Rattle.std.proofs.shelf.Bits.{mul-le}
-use Rattle.std.proofs.shelf.Elements.{all-weaker}
 use Rattle.std.proofs.shelf.Tests.{cases-lt, cond-true, cond-false, lt-ltb, le-ltb}
 use Rattle.shelf.specs.Folds.{most}
 use Rattle.shelf.specs.Largest.{largest}
 use Rattle.shelf.specs.Smallest.{Smallest, solution}
 use Rattle.shelf.specs.Times.{or-zero}
-use Rattle.shelf.proofs.Folds.{most-le}
 use Rattle.shelf.proofs.Solutions.{solution-is, solution-below}
 use Rattle.streams.specs.declared.stream.Stream.{Stream}
 use Rattle.streams.specs.Demands.{busy, ceil, demand, horizon, Fit}
@@ -71,11 +69,7 @@ pub blocking-is : (below : List Stream) (b : ℕ) → b ≡ most (λ x. x .cost)
 unfolding blocking
 blocking-is below b e = e
 
--- the blocking fits, and so do the instances of a busy period
-pub blocked-le : (below : List Stream) → All Fit below → blocking below ≤ 20000000
-unfolding blocking
-blocked-le below fit = most-le (λ x. x .cost) 20000000 below (all-weaker Fit (λ x. x .cost ≤ 20000000) (λ x f. f .priced .1) below fit)
-
+-- a busy period has few instances
 pub few-instances : (s : Stream) → Fit s → (l q : ℕ) → l ≤ horizon → q < ceil l (s .period) → (q ≤ 4000) × (q * s .cost ≤ 80000000000)
 few-instances s own l q h m =
     let n : q ≤ 4000 = omega (arith, ceil-le (s .period) l 4000 (omega (arith, own .paced)) (omega (arith, own .paced))) in

@@ -1,4 +1,5 @@
 // The figures that a domain is made from, at both sides of each limit.
+use bus::bus::Bus;
 use domains::fault::DomainFault;
 use domains::fault::DomainFaultDebug;
 use domains::fault::DomainFaultPartialEq;
@@ -8,6 +9,13 @@ use std::test::*;
 
 fn gateway_fault(fixed: u64, byte: u64) -> Option<DomainFault> {
     match Gateway::new(fixed, byte) {
+        Ok(_) => None,
+        Err(fault) => Some(fault),
+    }
+}
+
+fn bus_fault(arbitration: u64, data: u64) -> Option<DomainFault> {
+    match Bus::new(arbitration, data) {
         Ok(_) => None,
         Err(fault) => Some(fault),
     }
@@ -39,4 +47,14 @@ fn limits_of_figures() -> Result<(), Fail> {
     check_eq(radio_fault(200_001), Some(DomainFault::FirstFigure))?;
     check_eq(DomainFault::FirstFigure.number(), 1)?;
     check_eq(DomainFault::SecondFigure.number(), 1)
+}
+
+#[test]
+fn limits_of_a_bus() -> Result<(), Fail> {
+    check_eq(bus_fault(1_000, 125), None)?;
+    check_eq(bus_fault(8_000, 8_000), None)?;
+    check_eq(bus_fault(999, 125), Some(DomainFault::FirstFigure))?;
+    check_eq(bus_fault(8_001, 9_000), Some(DomainFault::FirstFigure))?;
+    check_eq(bus_fault(1_000, 124), Some(DomainFault::SecondFigure))?;
+    check_eq(bus_fault(1_000, 1_001), Some(DomainFault::SecondFigure))
 }

@@ -34,7 +34,9 @@ pub fn least_period(first: u64, streams: &[Stream]) -> u64
 
 // The largest of the streams' costs, or 0.
 pub fn largest_cost(streams: &[Stream]) -> u64
-    ensures { λ r. ⌜ r ≡ most (λ s. s .cost) (now (streams .entry)) ⌝ }
+    requires { ⌜ All Fit (now streams) ⌝ }
+    ensures is { λ r. ⌜ r ≡ most (λ s. s .cost) (now (streams .entry)) ⌝ }
+    ensures low { λ r. ⌜ r ≤ 20000000 ⌝ }
 {
     let mut largest: u64 = 0;
     for stream in streams {

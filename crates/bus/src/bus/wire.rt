@@ -67,7 +67,10 @@ pub impl Kind for Bus as BusKind {
         for q in 0..instances {
             // The next instance waits at least until this one is done.
             known = self.delay_of(own, above, b, busy, q, known) + own.cost;
-            worst = worst.max(known - q * own.period);
+            let time = known - q * own.period;
+            if time > worst {
+                worst = time;
+            }
         }
         Some(worst)
     }
