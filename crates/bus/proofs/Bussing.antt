@@ -1,35 +1,26 @@
 -- The busy period of a CAN FD bus and its instances. Assumes nothing.
-use mathlib.Core.Path.{_≡_, refl, sym, ap, ap₂, fun-ext, subst, _∙_}
-use mathlib.Core.Bool.{Bool, true, false, cond}
-use mathlib.Core.List.{List, [], _∷_}
+use mathlib.Core.Path.{_≡_, refl, sym, ap, subst, _∙_}
+use mathlib.Core.List.{List, _∷_}
 use mathlib.Core.Logic.{⊎-elim}
-use Prim.Native.Nat.{ℕ, zero, suc, _+_, _-_, _*_, _≤_, _<_, max}
+use Prim.Native.Nat.{ℕ, _+_, _-_, _*_, _≤_, _<_}
 use native.Mathlib.Omega.{arith}
 use native.Mathlib.Nat.{le-refl, le-trans, add-mul}
-use lib.Dec.{ltb}
 use Rattle.std.specs.shelf.Lists.{All}
 use Rattle.std.specs.declared.option.Option.{Option}
 use Rattle.std.specs.declared.option.Option.the-variants.{Some, None}
 use Rattle.std.proofs.shelf.Bits.{mul-le}
-use Rattle.std.proofs.shelf.Elements.{all-weaker}
-use Rattle.std.proofs.shelf.Tests.{cases-lt, ltb-true, ltb-false}
+use Rattle.std.proofs.shelf.Tests.{cases-lt}
 use Rattle.shelf.specs.Folds.{most}
-use Rattle.shelf.specs.Largest.{largest, Largest}
-use Rattle.shelf.specs.Picks.{Perm}
-use Rattle.shelf.specs.Picks.Pick.{here}
-use Rattle.shelf.specs.Picks.Perm.{next}
-use Rattle.shelf.specs.Smallest.{Smallest, solution}
+use Rattle.shelf.specs.Largest.{largest}
+use Rattle.shelf.specs.Smallest.{Smallest}
 use Rattle.shelf.specs.Times.{NoLater, AtMost, or-zero}
-use Rattle.shelf.proofs.Folds.{most-le}
 use Rattle.shelf.proofs.Maxima.{largest-le, le-largest, largest-is}
-use Rattle.shelf.proofs.Perms.{perm-most}
 use Rattle.shelf.proofs.Solutions.{solution-is, solution-no-later, solution-at-most, solution-below}
 use Rattle.streams.specs.declared.stream.Stream.{Stream}
 use Rattle.streams.specs.Demands.{busy, ceil, demand, horizon, Fit}
-use Rattle.streams.proofs.Demanding.{ceil-mono, ceil-pos, ceil-le, demand-cons, demand-mono, demand-perm}
-use Rattle.bus.specs.declared.bus.Bus.{Bus}
+use Rattle.streams.proofs.Demanding.{ceil-mono, ceil-pos, ceil-le, demand-cons, demand-mono}
 use Rattle.bus.specs.Answers.{Waits, BusResponse, BusAnswer}
-use Rattle.bus.specs.Buses.{bus-price, blocking, busy-load, busy-period, queue-load, delay, instance-time, over-instances, response-by}
+use Rattle.bus.specs.Buses.{busy-load, busy-period, queue-load, delay, instance-time, over-instances, response-by}
 
 -- the frame itself is released at once
 pub queue-starts : (s : Stream) (us : List Stream) (block : ℕ) → Fit s → 1 ≤ busy (s ∷ us) block 0 1

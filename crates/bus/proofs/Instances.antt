@@ -1,24 +1,23 @@
 -- One instance of a busy period after the other. Assumes nothing.
 use mathlib.Core.Path.{_≡_, refl, sym, ap, subst, _∙_}
-use mathlib.Core.List.{List, _∷_}
+use mathlib.Core.List.{List}
 use mathlib.Core.Logic.{⊎-elim}
 use lib.Dec.{ltb}
 use Prim.Native.Nat.{ℕ, _+_, _-_, _*_, _≤_, _<_, max}
 use native.Mathlib.Omega.{arith}
-use native.Mathlib.Nat.{le-refl, le-trans, add-mul}
+use native.Mathlib.Nat.{add-mul}
 use native.Mathlib.Numerals.{add-one}
 use Rattle.std.specs.shelf.Lists.{All}
-use Rattle.std.specs.declared.option.Option.{Option}
 use Rattle.std.specs.declared.option.Option.the-variants.{Some, None}
 use Rattle.std.proofs.shelf.Bits.{mul-le}
 use Rattle.std.proofs.shelf.Tests.{cases-lt, cond-true, cond-false, lt-ltb, le-ltb}
 use Rattle.shelf.specs.Folds.{most}
 use Rattle.shelf.specs.Largest.{largest}
-use Rattle.shelf.specs.Smallest.{Smallest, solution}
+use Rattle.shelf.specs.Smallest.{Smallest}
 use Rattle.shelf.specs.Times.{or-zero}
 use Rattle.shelf.proofs.Solutions.{solution-is, solution-below}
 use Rattle.streams.specs.declared.stream.Stream.{Stream}
-use Rattle.streams.specs.Demands.{busy, ceil, demand, horizon, Fit}
+use Rattle.streams.specs.Demands.{ceil, horizon, Fit}
 use Rattle.streams.proofs.Demanding.{ceil-le, demand-mono}
 use Rattle.bus.specs.Buses.{blocking, busy-period, queue-load, delay, instance-time, over-instances, of-instance, response-by, instance-by}
 

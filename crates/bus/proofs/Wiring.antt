@@ -9,7 +9,6 @@ use lib.Dec.{ltb}
 use Rattle.std.specs.declared.option.Option.{Option}
 use Rattle.std.proofs.shelf.Bits.{mul-le}
 use Rattle.std.proofs.shelf.Tests.{ltb-true, ltb-false}
-use Rattle.shelf.specs.Folds.{most}
 use Rattle.shelf.specs.Picks.{Perm}
 use Rattle.shelf.specs.Picks.Pick.{here}
 use Rattle.shelf.specs.Picks.Perm.{next}
@@ -17,11 +16,11 @@ use Rattle.shelf.specs.Smallest.{solution}
 use Rattle.shelf.specs.Times.{or-zero}
 use Rattle.shelf.proofs.Perms.{perm-most}
 use Rattle.streams.specs.declared.stream.Stream.{Stream}
-use Rattle.streams.specs.Demands.{ceil, demand, horizon, Fit, LawfulCost}
+use Rattle.streams.specs.Demands.{ceil, horizon, LawfulCost}
 use Rattle.streams.proofs.Demanding.{ceil-pos, demand-cons, demand-perm}
 use Rattle.kinds.specs.KindLaws.{KindLaws, Own}
 use Rattle.bus.specs.declared.bus.Bus.{Bus}
-use Rattle.bus.specs.Buses.{bus-price, blocking, busy-load, busy-period, queue-load, delay, instance-time, over-instances, response-by, bus-time}
+use Rattle.bus.specs.Buses.{bus-price, blocking, busy-period, delay, instance-time, over-instances, response-by, bus-time}
 use Rattle.bus.proofs.Bussing.{response-no-later, response-bounded}
 
 -- ---- costs

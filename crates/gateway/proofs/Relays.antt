@@ -1,11 +1,10 @@
 -- The duties of a gateway processor. Assumes nothing.
 use mathlib.Core.Path.{_≡_, refl, ap, fun-ext}
 use mathlib.Core.List.{List, _∷_}
-use Prim.Native.Nat.{ℕ, _+_, _*_, _≤_}
+use Prim.Native.Nat.{ℕ, _+_, _≤_}
 use native.Mathlib.Omega.{arith}
 use native.Mathlib.Nat.{mul-le-mul-left}
 use Rattle.std.specs.shelf.Lists.{All}
-use Rattle.std.specs.declared.option.Option.{Option}
 use Rattle.std.proofs.shelf.Bits.{mul-le}
 use Rattle.shelf.specs.Picks.{Perm}
 use Rattle.shelf.specs.Smallest.{solution}
@@ -13,7 +12,7 @@ use Rattle.shelf.specs.Times.{NoLater, AtMost}
 use Rattle.shelf.proofs.Solutions.{solution-is, solution-no-later, solution-at-most}
 use Rattle.shelf.proofs.Times.{no-later-refl}
 use Rattle.streams.specs.declared.stream.Stream.{Stream}
-use Rattle.streams.specs.Demands.{demand, horizon, Fit, LawfulCost}
+use Rattle.streams.specs.Demands.{horizon, Fit, LawfulCost}
 use Rattle.streams.proofs.Demanding.{demand-cons, demand-mono, demand-perm}
 use Rattle.kinds.specs.KindLaws.{KindLaws}
 use Rattle.gateway.specs.declared.gateway.Gateway.{Gateway}

@@ -1,4 +1,4 @@
-// Runs of the bus: the last of three frames, alone in a bank of four, and a bus that is never idle.
+// Runs of banks with a bus: frames in order of priority, the last of three frames, and a bus that is never idle.
 use bus::bus::Bus;
 use bus::bus::wire::BusDomain;
 use domains::domain::Domain;
@@ -12,6 +12,8 @@ use gateway::gateway::relay::GatewayDomain;
 use radio::radio::Radio;
 use radio::radio::link::RadioDomain;
 use std::test::*;
+use timing::carried::in_time;
+use timing::ranked::response_at;
 
 fn row(period: u64) -> Row {
     Row {
@@ -21,6 +23,31 @@ fn row(period: u64) -> Row {
         deadline: 150_000,
         set: 15,
     }
+}
+
+// As in the README: a bus, a gateway and a link. The second frame is not sent over the link.
+#[test]
+fn frames_in_order_of_priority() -> Result<(), Fail> {
+    let bank = Pair::new(
+        Bus::new(2_000, 500)?,
+        Pair::new(Gateway::new(20_000, 100)?, Radio::new(50_000)?),
+    );
+    let rows = [
+        row(1_000_000),
+        Row {
+            deadline: 244_000,
+            set: 3,
+            ..row(1_000_000)
+        },
+    ];
+    let time: Option<u64> = response_at(&bank, 0, &rows, 1);
+    check_eq(time, Some(244_000))?;
+    check(in_time(time, rows[1].deadline)).note("at its deadline")?;
+    check(!in_time(response_at(&bank, 0, &rows, 0), rows[0].deadline)).note("blocked from below")?;
+    check_eq(response_at(&bank, 1, &rows, 1), Some(41_600)).note("gateway")?;
+    check_eq(response_at(&bank, 2, &rows, 0), Some(700_000)).note("alone on the link")?;
+    check_eq(response_at(&bank, 2, &rows, 1), None).note("not on the link")?;
+    check(!in_time(None, 1_000_000))
 }
 
 #[test]

@@ -1,6 +1,6 @@
 -- The smallest number with a property, and the smallest solution of w = rule w: that it is the smallest, that there is
 -- but one, that a lower rule has a lower one, and that it lies below each point that the rule does not raise. Assumes nothing.
-use mathlib.Core.Path.{_≡_, refl, sym, ap, subst, _∙_}
+use mathlib.Core.Path.{_≡_, refl, sym, ap, subst}
 use mathlib.Core.Bool.{Bool, true, false, cond}
 use mathlib.Core.Logic.{⊎-elim}
 use Prim.Native.Nat.{ℕ, zero, suc, _+_, _-_, _≤_, _<_}

@@ -9,7 +9,7 @@ use lib.ListN.{length, getD, take, drop}
 use Rattle.std.specs.shelf.Lists.{kept-by}
 use Rattle.std.specs.declared.option.Option.{Option}
 use Rattle.std.specs.declared.option.Option.the-variants.{None}
-use Rattle.std.proofs.shelf.Tests.{cond-true, cond-false, and-from, and-left, and-right, le-leb, lt-leb, lt-ltb, le-ltb, eq-eqb, ne-eqb, cases-lt, cases-order}
+use Rattle.std.proofs.shelf.Tests.{cond-true, cond-false, and-from, and-left, and-right, le-leb, lt-leb, lt-ltb, le-ltb}
 use Rattle.std.proofs.shelf.Ways.{tells}
 use Rattle.frames.specs.declared.row.Row.{Row}
 use Rattle.domains.specs.declared.place.Place.{Place}

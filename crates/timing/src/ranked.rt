@@ -4,7 +4,6 @@ ghost use Prim.Native.Nat.{ℕ, _<_, _≤_};
 ghost use lib.ListN.{length, getD};
 ghost use Rattle.domains.specs.Asked.{no-row};
 ghost use Rattle.domains.specs.declared.place.Place.the-variants.{Absent as Gone};
-ghost use Rattle.timing.specs.Carried.{carried};
 ghost use Rattle.timing.specs.Ranked.{rank, response-at};
 use crate::carried::carries;
 use domains::domain::Domain;

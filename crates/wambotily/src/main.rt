@@ -16,7 +16,10 @@ use timing::carried::carries;
 use timing::carried::in_time;
 use timing::ranked::response_at;
 
-// Three frames on a slow bus, in order of priority.
+// All bits of the slow bus take as long.
+const BIT: u64 = 8_000;
+
+// Three frames on it, in order of priority.
 const THREE: [Row; 3] = [
     Row {
         sender: 1,
@@ -107,7 +110,7 @@ fn print_instances(rt: &LibcRuntime, bus: &Bus) -> Result<u64, AnyError> {
 fn print_bus(rt: &LibcRuntime, bus: &Bus) -> Result<(), AnyError> {
     println!(
         rt,
-        "The last of three frames on a CAN FD bus, all bits 8000 ns:"
+        "The last of three frames on a CAN FD bus, all bits {BIT} ns:"
     )?;
     let Some(frame) = Frame::of(&THREE[2]) else {
         return Err("a frame is outside the limits of a record".into());
@@ -196,7 +199,7 @@ fn print_table<D: Domain>(rt: &LibcRuntime, bank: &D, rows: &[Row]) -> Result<()
 }
 
 fn run(rt: &LibcRuntime) -> Result<(), AnyError> {
-    let Ok(bus) = Bus::new(8_000, 8_000) else {
+    let Ok(bus) = Bus::new(BIT, BIT) else {
         return Err("a figure of the bus is outside its limits".into());
     };
     print_bus(rt, &bus)?;

@@ -4,7 +4,6 @@ use mathlib.Core.List.{List, [], _∷_, map}
 use Prim.Native.Nat.{ℕ, _+_, _-_, _≤_}
 use native.Mathlib.Omega.{arith}
 use Rattle.std.specs.shelf.Lists.{All}
-use Rattle.std.specs.declared.option.Option.{Option}
 use Rattle.std.specs.declared.option.Option.the-variants.{Some, None}
 use Rattle.frames.specs.declared.row.Row.{Row}
 use Rattle.frames.specs.Limits.{Lawful}
@@ -24,7 +23,7 @@ use Rattle.bus.specs.Buses.{bus-price, blocking, busy-load, busy-period, queue-
 use Rattle.bus.proofs.Bussing.{busy-up, queue-up}
 use Rattle.bus.proofs.Instances.{worst-found, instance-past, instance-found}
 use Rattle.bus.proofs.Wiring.{bus-kept}
-use Rattle.worked.specs.Figures.{frame, processor, through-processor, link, over-link, fast-bus, slow-bus, on-bus, last, before, last-busy, last-instance, due, LaterInstance}
+use Rattle.worked.specs.Figures.{frame, processor, through-processor, over-link, fast-bus, slow-bus, on-bus, last, before, last-busy, last-instance, due, LaterInstance}
 
 pub fills : (payload 8 ≡ 8) × (payload 9 ≡ 12) × (payload 17 ≡ 20) × (payload 49 ≡ 64)
 unfolding payload smallest first-of

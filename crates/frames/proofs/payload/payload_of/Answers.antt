@@ -1,6 +1,5 @@
 use mathlib.Core.Path.{refl, sym, subst, _∙_}
 use native.Mathlib.Omega.{arith}
-use Rattle.std.specs.declared.option.Option.the-variants.{Some, None}
 use Rattle.std.proofs.shelf.Lists.{at-drop-all}
 use Rattle.shelf.specs.Smallest.{Smallest}
 use Rattle.frames.specs.Payloads.{Fits, sizes}

@@ -1,13 +1,11 @@
 use mathlib.Core.Path.{_≡_, sym, ap, subst, _∙_}
 use mathlib.Core.Logic.{⊎-elim}
 use native.Mathlib.Omega.{arith}
-use Rattle.std.specs.declared.option.Option.{Option}
 use Rattle.std.specs.declared.option.Option.the-variants.{None}
 use Rattle.frames.proofs.Lawfuls.{from-lawful, checked-none, checked-some}
 use Rattle.domains.proofs.Asking.{asked-long, asked-outside, asked-unlawful, asked-unlawful-above, asked-unlawful-below, asked-is}
 use Rattle.domains.proofs.Replying.{all-lawful}
 use Rattle.domains.specs.Asked.{asked}
-use Rattle.kinds.specs.declared.view.View.{View}
 use Rattle.kinds.specs.Looked.{Looked}
 use Rattle.kinds.specs.Rows.{stream-by}
 use Rattle.kinds.proofs.look.look.Needs as need

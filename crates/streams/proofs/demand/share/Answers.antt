@@ -1,7 +1,6 @@
 use mathlib.Core.Path.{ap}
 use Prim.Native.Nat.{_*_}
 use native.Mathlib.Omega.{arith}
-use Rattle.streams.specs.Demands.{ceil}
 use Rattle.streams.proofs.Demanding.{share-le}
 use Rattle.streams.proofs.demand.share.Needs as need
 

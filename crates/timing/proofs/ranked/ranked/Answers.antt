@@ -1,7 +1,7 @@
 use borrow.Author.Count.{below-more}
-use mathlib.Core.Path.{_≡_, ap, _∙_}
+use mathlib.Core.Path.{_∙_}
 use mathlib.Core.Logic.{_≢_}
-use Prim.Native.Nat.{_<_, _≤_}
+use Prim.Native.Nat.{_<_}
 use native.Mathlib.Omega.{arith}
 use lib.ListN.{length, length-set}
 use Rattle.std.proofs.shelf.Lists.{getD-set-same, getD-set-other}

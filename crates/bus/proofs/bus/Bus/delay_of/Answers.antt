@@ -1,10 +1,9 @@
-use mathlib.Core.Path.{_≡_, refl, sym, ap, subst, _∙_}
+use mathlib.Core.Path.{_≡_, sym, ap, subst, _∙_}
 use Prim.Native.Nat.{ℕ, _+_, _*_, _≤_, max}
 use native.Mathlib.Omega.{arith}
 use Rattle.std.specs.Options.{isSome}
-use Rattle.shelf.proofs.Solutions.{solution-at-most}
-use Rattle.streams.specs.Demands.{busy, horizon}
-use Rattle.bus.specs.Buses.{busy-period, delay}
+use Rattle.streams.specs.Demands.{busy}
+use Rattle.bus.specs.Buses.{delay}
 use Rattle.bus.proofs.Bussing.{waits, begins, busy-soon}
 use Rattle.bus.proofs.Instances.{few-instances}
 use Rattle.bus.proofs.Wiring.{short}

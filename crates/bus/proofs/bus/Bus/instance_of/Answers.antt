@@ -1,8 +1,8 @@
-use mathlib.Core.Path.{_≡_, sym, ap, _∙_}
+use mathlib.Core.Path.{ap, _∙_}
 use Prim.Native.Nat.{_≤_, _<_}
 use native.Mathlib.Omega.{arith}
 use Rattle.streams.specs.Demands.{ceil}
-use Rattle.bus.specs.Buses.{blocking, instance-by}
+use Rattle.bus.specs.Buses.{instance-by}
 use Rattle.bus.proofs.Instances.{blocking-is, instance-none, instance-past, instance-found}
 use Rattle.bus.proofs.bus.Bus.instance_of.Needs as need
 

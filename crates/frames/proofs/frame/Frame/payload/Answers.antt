@@ -1,5 +1,4 @@
 use mathlib.Core.Path.{sym, ap, _∙_}
-use Prim.Native.Nat.{ℕ}
 use Rattle.frames.specs.Payloads.{or-full}
 use Rattle.frames.proofs.Fitting.{fits-some, payload-is}
 use Rattle.frames.proofs.frame.Frame.payload.Needs as need

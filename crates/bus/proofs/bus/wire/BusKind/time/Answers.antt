@@ -1,7 +1,6 @@
 use mathlib.Core.Path.{_≡_, refl, sym, ap, subst, _∙_}
 use Prim.Native.Nat.{_+_, _-_, _*_, max}
 use native.Mathlib.Omega.{arith}
-use Rattle.streams.specs.Demands.{ceil}
 use Rattle.bus.specs.Answers.{BusAnswer}
 use Rattle.bus.specs.Buses.{blocking, response-by}
 use Rattle.bus.proofs.Bussing.{response-answer}
