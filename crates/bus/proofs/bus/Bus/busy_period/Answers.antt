@@ -26,7 +26,7 @@ busy-from-requires c κs =
       own = seen-own bus-kept d _ _ _ v seen .fit;
       over = subst (All Fit) (sym (c .as-slice .ensures)) (seen-above bus-kept d _ _ _ v seen);
       few = omega (arith, ap length (c .as-slice .ensures), listed-few (v .above));
-      blocked = c .largest-cost .ensures .low;
+      blocked = omega (arith, c .largest-cost .ensures .low);
     }
 
 pub returns : need.returns

@@ -11,7 +11,7 @@ use Rattle.bus.proofs.bus.wire.BusKind.time.Needs.{then-time-worst, else-time-
 
 pub busy-from-requires : need.busy-from-requires
 busy-from-requires c κs =
-    record { own = c .pre .own .fit; over = c .pre .over; few = c .pre .few; blocked = c .largest-cost-b .ensures .low }
+    record { own = c .pre .own .fit; over = c .pre .over; few = c .pre .few; blocked = omega (arith, c .largest-cost-b .ensures .low) }
 
 pub returns-in-Break-busy : need.returns-in-Break-busy
 returns-in-Break-busy c =
@@ -30,7 +30,7 @@ delay-of-requires c κs =
       own = c .pre .own;
       over = c .pre .over;
       few = c .pre .few;
-      blocked = c .largest-cost-b .ensures .low;
+      blocked = omega (arith, c .largest-cost-b .ensures .low);
       busy = c .in-Continue-busy .ensures tt .is;
       within = omega (arith, c .div-up-instances .ensures .is);
       rises = c .loop-q .inv .rises;
