@@ -51,6 +51,6 @@ impl Bus {
         if q >= div_up(busy, own.period) {
             return None;
         }
-        Some(self.delay_of(own, above, b, busy, q, 0) + own.cost - q * own.period)
+        Some(self.delay_of(own, above, b, q, 0) + own.cost - q * own.period)
     }
 }

@@ -66,7 +66,7 @@ pub impl Kind for Bus as BusKind {
         let mut known: u64 = 0;
         for q in 0..instances {
             // The next instance waits at least until this one is done.
-            known = self.delay_of(own, above, b, busy, q, known) + own.cost;
+            known = self.delay_of(own, above, b, q, known) + own.cost;
             let time = known - q * own.period;
             if time > worst {
                 worst = time;

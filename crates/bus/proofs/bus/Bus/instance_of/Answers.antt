@@ -30,8 +30,7 @@ delay-of-requires c κs =
       over = c .pre .over;
       few = c .pre .few;
       blocked = omega (arith, c .largest-cost-b .ensures .low);
-      busy = c .in-Continue-busy .ensures tt .is;
-      within = omega (arith, c .div-up .ensures .is);
+      within = (c .in-Continue-busy .busy, c .in-Continue-busy .ensures tt .is, omega (arith, c .div-up .ensures .is));
       rises = omega arith;
       below = λ v e. omega arith;
     }

@@ -31,8 +31,7 @@ delay-of-requires c κs =
       over = c .pre .over;
       few = c .pre .few;
       blocked = omega (arith, c .largest-cost-b .ensures .low);
-      busy = c .in-Continue-busy .ensures tt .is;
-      within = omega (arith, c .div-up-instances .ensures .is);
+      within = (c .in-Continue-busy .busy, c .in-Continue-busy .ensures tt .is, omega (arith, c .div-up-instances .ensures .is));
       rises = c .loop-q .inv .rises;
       below = c .loop-q .inv .below;
     }
