@@ -31,6 +31,16 @@ pub busy-soon : (s : Stream) (us : List Stream) (b l : ℕ) → busy-period s us
 unfolding busy-period
 busy-soon s us b l e = subst (AtMost horizon) e (solution-at-most (busy-load s us b) 1 horizon (omega arith))
 
+-- what is found is the smallest solution
+busy-smallest : (s : Stream) (us : List Stream) (b : ℕ) (o : Option ℕ) → busy-period s us b ≡ o → Smallest (λ t. t ≡ busy-load s us b t) 1 horizon o
+unfolding busy-period
+busy-smallest s us b o e = subst (Smallest (λ t. t ≡ busy-load s us b t) 1 horizon) e (solution-is (busy-load s us b) 1 horizon (omega arith))
+
+pub delay-smallest : (a : ℕ) (s : Stream) (us : List Stream) (b q w : ℕ) → delay a s us b q ≡ Some w → Waits a s us b q w
+unfolding delay
+delay-smallest a s us b q w d =
+    subst (Smallest (λ v. v ≡ queue-load a s us b q v) 0 horizon) d (solution-is (queue-load a s us b q) 0 horizon (omega arith))
+
 -- ---- the loads rise with the time
 module _ (s : Stream) (us : List Stream) (b : ℕ) (own : Fit s) (fit : All Fit us) where
   lasting : 1 ≤ s .period
@@ -44,7 +54,7 @@ module _ (s : Stream) (us : List Stream) (b : ℕ) (own : Fit s) (fit : All Fit 
       omega (arith, load-is v, load-is w, mul-le (ceil v (s .period)) (s .cost) (ceil w (s .period)) (s .cost) (ceil-mono (s .period) v w lasting h) (le-refl (s .cost)), demand-mono us fit v w h)
 
   pub busy-starts : 1 ≤ busy-load s us b 1
-  busy-starts = queue-starts s us (b) own
+  busy-starts = queue-starts s us b own
 
   pub queue-up : (a q v w : ℕ) → v ≤ w → queue-load a s us b q v ≤ queue-load a s us b q w
   queue-up a q v w h = omega (arith, demand-mono us fit (v + a) (w + a) (omega arith))
@@ -59,7 +69,7 @@ module _ (s : Stream) (us : List Stream) (b : ℕ) (own : Fit s) (fit : All Fit 
     pub waits : (l q : ℕ) → busy-period s us b ≡ Some l → q < ceil l (s .period) → (v : ℕ) × (delay a s us b q ≡ Some v) × (v + s .cost ≤ l)
     unfolding delay busy-period
     waits l q e m =
-        let found = subst (Smallest (λ t. t ≡ busy-load s us b t) 1 horizon) e (solution-is (busy-load s us b) 1 horizon (omega arith)) in
+        let found = busy-smallest s us b (Some l) e in
         let turns : (q + 1) * s .cost ≤ ceil l (s .period) * s .cost = mul-le (q + 1) (s .cost) (ceil l (s .period)) (s .cost) (omega arith) (le-refl (s .cost)) in
         let parts : (q + 1) * s .cost ≡ q * s .cost + s .cost = add-mul q 1 (s .cost) ∙ omega arith in
         let is : l ≡ b + (ceil l (s .period) * s .cost + demand us l) = found .2 ∙ load-is l in
@@ -74,7 +84,7 @@ module _ (s : Stream) (us : List Stream) (b : ℕ) (own : Fit s) (fit : All Fit 
       where
         idle : w < q * s .period → ⊥
         idle early =
-            let found = subst (Smallest (λ v. v ≡ queue-load a s us b q v) 0 horizon) d (solution-is (queue-load a s us b q) 0 horizon (omega arith)) in
+            let found = delay-smallest a s us b q w d in
             let turns : ceil w (s .period) * s .cost ≤ q * s .cost = mul-le (ceil w (s .period)) (s .cost) q (s .cost) (ceil-le (s .period) w q lasting (omega arith)) (le-refl (s .cost)) in
             let some : 1 ≤ q = ⊎-elim {C = 1 ≤ q} (λ z. let none : q ≡ 0 = omega arith in absurd (omega (arith, ap (λ n. n * s .period) none))) (λ h. h) (cases-lt q 1) in
             let waited : 1 ≤ w = omega (arith, found .2, mul-le 1 1 q (s .cost) some (own .priced .0)) in
@@ -121,10 +131,6 @@ module _ (a : ℕ) (s : Stream) (us : List Stream) (b : ℕ) (us′ : List Strea
 
 -- ---- the answer in words
 module _ (a : ℕ) (s : Stream) (us : List Stream) (b : ℕ) (own : Fit s) (short : a ≤ s .cost) (fit : All Fit us) where
-  delay-is : (q w : ℕ) → delay a s us b q ≡ Some w → Waits a s us b q w
-  unfolding delay
-  delay-is q w d = subst (Smallest (λ v. v ≡ queue-load a s us b q v) 0 horizon) d (solution-is (queue-load a s us b q) 0 horizon (omega arith))
-
   -- one instance: it waits, begins no earlier than it is released, and its time is exact
   instance-is : (l q : ℕ) → busy-period s us b ≡ Some l → q < ceil l (s .period)
       → (w : ℕ) × Waits a s us b q w × (q * s .period ≤ w) × (w + s .cost ≡ instance-time a s us b q + q * s .period) × (w + s .cost ≤ l)
@@ -132,14 +138,10 @@ module _ (a : ℕ) (s : Stream) (us : List Stream) (b : ℕ) (own : Fit s) (shor
   instance-is l q e m =
       let x = waits s us b own fit a short l q e m in
       let late = begins s us b own fit a short l q (x .0) e m (x .1) in
-      (x .0, delay-is q (x .0) (x .1), late, omega (arith, ap or-zero (x .1), late), x .2)
-
-  busy-smallest : (o : Option ℕ) → busy-period s us b ≡ o → Smallest (λ t. t ≡ busy-load s us b t) 1 horizon o
-  unfolding busy-period
-  busy-smallest o e = subst (Smallest (λ t. t ≡ busy-load s us b t) 1 horizon) e (solution-is (busy-load s us b) 1 horizon (omega arith))
+      (x .0, delay-smallest a s us b q (x .0) (x .1), late, omega (arith, ap or-zero (x .1), late), x .2)
 
   some-instance : (l : ℕ) → busy-period s us b ≡ Some l → 0 < ceil l (s .period)
-  some-instance l e = ceil-pos (s .period) l (lasting s us b own fit) (busy-smallest (Some l) e .0)
+  some-instance l e = ceil-pos (s .period) l (lasting s us b own fit) (busy-smallest s us b (Some l) e .0)
 
   response-is : (l : ℕ) → busy-period s us b ≡ Some l → BusResponse a s us b (largest (instance-time a s us b) (ceil l (s .period)))
   response-is l e =
@@ -150,8 +152,8 @@ module _ (a : ℕ) (s : Stream) (us : List Stream) (b : ℕ) (own : Fit s) (shor
       let first = instance-is l 0 e (some-instance l e) in
       record {
         busy = l;
-        busy-is = busy-smallest (Some l) e;
-        each = λ q m. let x = instance-is l q e m in (x .0, x .1, x .2, omega (arith, x .3, top .most q m));
+        busy-is = busy-smallest s us b (Some l) e;
+        each = λ q m. let x = instance-is l q e m in (x .0, x .1, x .2, x .4, omega (arith, x .3, top .most q m));
         latest = top .place;
         within = top .within;
         wait = late .0;
@@ -166,7 +168,7 @@ module _ (a : ℕ) (s : Stream) (us : List Stream) (b : ℕ) (own : Fit s) (shor
   response-answer = go (busy-period s us b) refl
     where
       go : (o : Option ℕ) → busy-period s us b ≡ o → BusAnswer a s us b (over-instances o (s .period) (instance-time a s us b))
-      go None e = busy-smallest None e
+      go None e = busy-smallest s us b None e
       go (Some l) e = response-is l e
 
   pub response-bounded : AtMost horizon (response-by a s us b)

@@ -13,13 +13,14 @@ use Rattle.std.proofs.shelf.Bits.{mul-le}
 use Rattle.std.proofs.shelf.Tests.{cases-lt, cond-true, cond-false, lt-ltb, le-ltb}
 use Rattle.shelf.specs.Folds.{most}
 use Rattle.shelf.specs.Largest.{largest}
-use Rattle.shelf.specs.Smallest.{Smallest}
 use Rattle.shelf.specs.Times.{or-zero}
-use Rattle.shelf.proofs.Solutions.{solution-is, solution-below}
+use Rattle.shelf.proofs.Solutions.{solution-below}
 use Rattle.streams.specs.declared.stream.Stream.{Stream}
 use Rattle.streams.specs.Demands.{ceil, horizon, Fit}
 use Rattle.streams.proofs.Demanding.{ceil-le, demand-mono}
+use Rattle.bus.specs.Answers.{Waits}
 use Rattle.bus.specs.Buses.{blocking, busy-period, queue-load, delay, instance-time, over-instances, of-instance, response-by, instance-by}
+use Rattle.bus.proofs.Bussing.{delay-smallest}
 
 -- q instances are seen: the worst of them, and a time before which instance q does not start
 pub record Instances (a : ℕ) (s : Stream) (us : List Stream) (b : ℕ) (q worst known : ℕ) : Type 0 where
@@ -31,10 +32,9 @@ module _ (a : ℕ) (s : Stream) (us : List Stream) (b : ℕ) where
   pub instances-none : Instances a s us b 0 0 0
   instances-none = record { worst-is = refl; rises = omega arith; below = λ v e. omega arith }
 
-  module _ (own : Fit s) (fit : All Fit us) (q w : ℕ) (waits : delay a s us b q ≡ Some w) where
-    waited : Smallest (λ v. v ≡ queue-load a s us b q v) 0 horizon (Some w)
-    unfolding delay
-    waited = subst (Smallest (λ v. v ≡ queue-load a s us b q v) 0 horizon) waits (solution-is (queue-load a s us b q) 0 horizon (omega arith))
+  module _ (fit : All Fit us) (q w : ℕ) (waits : delay a s us b q ≡ Some w) where
+    waited : Waits a s us b q w
+    waited = delay-smallest a s us b q w waits
 
     parts : (q + 1) * s .cost ≡ q * s .cost + s .cost
     parts = add-mul q 1 (s .cost) ∙ omega arith

@@ -12,6 +12,10 @@ use Rattle.shelf.proofs.Perms.{perm-sum}
 use Rattle.streams.specs.declared.stream.Stream.{Stream}
 use Rattle.streams.specs.Demands.{ceil, demand, total, Fit, Rounded}
 
+-- what an element past the end of a list reads as
+abbrev pub no-stream : Stream
+no-stream = record { cost = 0; period = 0 }
+
 pub ceil-mono : (t v w : ℕ) → 1 ≤ t → v ≤ w → ceil v t ≤ ceil w t
 unfolding ceil
 ceil-mono t v w p h = le-div-iff-mul-le p .1 (le-trans (div-mul-le-self (v + (t - 1)) t) (omega arith))

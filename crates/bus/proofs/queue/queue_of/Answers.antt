@@ -4,11 +4,8 @@ use Prim.Native.Nat.{_+_, _<_}
 use native.Mathlib.Omega.{arith}
 use lib.ListN.{length, take, getD, length-set}
 use Rattle.std.proofs.shelf.Lists.{take-more-set, take-more, take-all}
-use Rattle.streams.specs.declared.stream.Stream.{Stream}
+use Rattle.streams.proofs.Demanding.{no-stream}
 use Rattle.bus.proofs.queue.queue_of.Needs as need
-
-abbrev no-stream : Stream
-no-stream = record { cost = 0; period = 0 }
 
 pub loop-i-holds : need.loop-i-holds
 loop-i-holds c = (refl, refl)

@@ -2,11 +2,8 @@ use mathlib.Core.List.{_∷_}
 use mathlib.Core.Path.{_≡_}
 use Prim.Native.Nat.{_+_}
 use lib.ListN.{length, take, getD}
-use Rattle.streams.specs.declared.stream.Stream.{Stream}
+use Rattle.streams.proofs.Demanding.{no-stream}
 use Rattle.bus.proofs.queue.queue_of.Given as given
-
-abbrev no-stream : Stream
-no-stream = record { cost = 0; period = 0 }
 
 -- the table began full of the frame asked about, which stays in front
 abbrev pub Inv-loop-i : given.InvT-loop-i

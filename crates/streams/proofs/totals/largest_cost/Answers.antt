@@ -7,13 +7,11 @@ use Rattle.shelf.specs.Folds.{most}
 use Rattle.shelf.proofs.Folds.{most-le}
 use Rattle.streams.specs.declared.stream.Stream.{Stream}
 use Rattle.streams.specs.Demands.{Fit}
+use Rattle.streams.proofs.Demanding.{no-stream}
 use Rattle.streams.proofs.totals.largest_cost.Needs as need
 
 abbrev cost : Stream → ℕ
 cost s = s .cost
-
-abbrev no-stream : Stream
-no-stream = record { cost = 0; period = 0 }
 
 pub loop-stream-again : need.loop-stream-again
 loop-stream-again c =

@@ -5,12 +5,9 @@ use lib.ListN.{getD}
 use Rattle.std.proofs.shelf.Elements.{all-getD}
 use Rattle.std.proofs.shelf.Lists.{take-all}
 use Rattle.std.proofs.shelf.Sums.{sumBy-more}
-use Rattle.streams.specs.declared.stream.Stream.{Stream}
 use Rattle.streams.specs.Demands.{Fit, total}
+use Rattle.streams.proofs.Demanding.{no-stream}
 use Rattle.streams.proofs.totals.total_cost.Needs as need
-
-abbrev no-stream : Stream
-no-stream = record { cost = 0; period = 0 }
 
 pub loop-stream-holds : need.loop-stream-holds
 unfolding total

@@ -43,7 +43,7 @@ pub loop-q-again : need.loop-q-again
 loop-q-again c =
     let time = (c .delay-of .result + c .args .own .cost) - c .loop-q .q * c .args .own .period in
     let worst : c .if-time-worst .worst ≡ max (c .loop-q .worst) time = elim (c .if-time-worst .came) [ then-time-worst w ↦ omega (arith, w .worst-is) | else-time-worst w ↦ omega (arith, w .worst-is) ] in
-    instances-more (c .args .self .now .arbitration) (c .args .own) (c .args .above .now) (c .largest-cost-b .result) (c .pre .own .fit) (c .pre .over) (c .loop-q .q) (c .delay-of .result) (c .delay-of .ensures .is) (c .loop-q .worst) (c .loop-q .known) _ _ (c .loop-q .inv) refl worst
+    instances-more (c .args .self .now .arbitration) (c .args .own) (c .args .above .now) (c .largest-cost-b .result) (c .pre .over) (c .loop-q .q) (c .delay-of .result) (c .delay-of .ensures .is) (c .loop-q .worst) (c .loop-q .known) _ _ (c .loop-q .inv) refl worst
 
 pub returns : need.returns
 returns c =
