@@ -3,17 +3,17 @@ use Rattle.shelf.specs.Times.{NoLater}
 use Rattle.relief.proofs.Lowering.{eased, still_some, gain, gains_none}
 use Rattle.relief.proofs.relief.Goals as goal
 
-pub returns-in-err-before : goal.returns-in-err-before
-returns-in-err-before g c = gains_none _ _ _ (sym c.in-err-before.ensures) c.from-residual.ensures
+pub returns-in_err-before : goal.returns-in_err-before
+returns-in_err-before g c = gains_none _ _ _ (sym c.in_err-before.ensures) c.from_residual.ensures
 
 pub unwrap-after-requires : goal.unwrap-after-requires
 unwrap-after-requires g c =
-    still_some g.met.D.Domain.duties c.args.domain.now c.args.k c.args.rows.now c.args.places c.left-out-without.result c.args.f c.args.i c.in-ok-before.before c.answer-2.result c.in-ok-before.ensures c.left-out-without.ensures c.answer-2.ensures
+    still_some g.met.D.Domain.duties c.args.domain.now c.args.k c.args.rows.now c.args.places c.left_out-without.result c.args.f c.args.i c.in_ok-before.before c.answer-2.result c.in_ok-before.ensures c.left_out-without.ensures c.answer-2.ensures
 
-pub overflow-sub-result : goal.overflow-sub-result
-overflow-sub-result g c =
-    subst (NoLater (Some c.in-ok-before.before)) c.unwrap-after.ensures (eased g.met.D.Domain.duties c.args.domain.now c.args.k c.args.rows.now c.args.places c.left-out-without.result c.args.f c.args.i c.in-ok-before.before c.answer-2.result c.in-ok-before.ensures c.left-out-without.ensures c.answer-2.ensures)
+pub overflow_sub-result : goal.overflow_sub-result
+overflow_sub-result g c =
+    subst (NoLater (Some c.in_ok-before.before)) c.unwrap-after.ensures (eased g.met.D.Domain.duties c.args.domain.now c.args.k c.args.rows.now c.args.places c.left_out-without.result c.args.f c.args.i c.in_ok-before.before c.answer-2.result c.in_ok-before.ensures c.left_out-without.ensures c.answer-2.ensures)
 
 pub returns : goal.returns
 returns g c =
-    gain g.met.D.Domain.duties c.args.domain.now c.args.k c.args.rows.now c.args.places c.left-out-without.result c.args.f c.args.i c.in-ok-before.before c.answer-2.result c.in-ok-before.ensures c.left-out-without.ensures c.answer-2.ensures c.unwrap-after.result c.unwrap-after.ensures
+    gain g.met.D.Domain.duties c.args.domain.now c.args.k c.args.rows.now c.args.places c.left_out-without.result c.args.f c.args.i c.in_ok-before.before c.answer-2.result c.in_ok-before.ensures c.left_out-without.ensures c.answer-2.ensures c.unwrap-after.result c.unwrap-after.ensures

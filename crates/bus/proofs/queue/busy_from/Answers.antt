@@ -15,7 +15,7 @@ part xs ys n e = ap (λ m. take m xs) (sub-zero n) ∙ e
 
 pub settle-requires : goal.settle-requires
 settle-requires c =
-    let queue = part c.queue-of-queue.result (c.args.own ∷ c.args.above.now) _ c.queue-of-queue.ensures in
+    let queue = part c.queue_of-queue.result (c.args.own ∷ c.args.above.now) _ c.queue_of-queue.ensures in
     record {
       fit = subst (All Fit) (sym queue) (c.requires.own, c.requires.over);
       few = omega (arith, ap length queue, c.requires.few);
@@ -29,7 +29,7 @@ settle-requires c =
 pub returns : goal.returns
 unfolding busy_period
 returns c =
-    let queue = part c.queue-of-queue.result (c.args.own ∷ c.args.above.now) _ c.queue-of-queue.ensures in
+    let queue = part c.queue_of-queue.result (c.args.own ∷ c.args.above.now) _ c.queue_of-queue.ensures in
     record {
       is = c.settle.ensures.is
           ∙ ap (λ (rule : ℕ → ℕ). solution rule 1 horizon) (fun_ext (λ t. ap (λ l. busy l c.args.b 0 t) queue ∙ ap (λ n. c.args.b + demand (c.args.own ∷ c.args.above.now) n) (add-zero t)));

@@ -6,31 +6,31 @@ use Rattle.domains.specs.declared.place.Place.TheVariants.{Absent}
 use Rattle.ordering.specs.Orders.{orderable, greedy}
 use Rattle.ordering.proofs.Dropping.{Dropping, dropping_none, dropping_kept, dropping_out, dropping_all, trial_above, trial_none, trial_count}
 use Rattle.ordering.proofs.conflicts.find_conflict.Goals as goal
-use Rattle.ordering.proofs.conflicts.find_conflict.Goals.{then-not-has-order, else-not-has-order}
+use Rattle.ordering.proofs.conflicts.find_conflict.Goals.{then-not-has_order, else-not-has_order}
 
 pub loop-i-init : goal.loop-i-init
 loop-i-init g c = dropping_none (orderable (by_number (everywhere (g.B.Domain.response c.args.bank.now)) (row_at c.args.rows.now))) c.args.rows.now c.requires
 
-pub overflow-sub-size : goal.overflow-sub-size
-overflow-sub-size g c = omega (arith, trial_count c.loop-i.invariant c.loop-i-test.true)
+pub overflow_sub-size : goal.overflow_sub-size
+overflow_sub-size g c = omega (arith, trial_count c.loop-i.invariant c.loop-i-test.true)
 
-pub has-order-requires : goal.has-order-requires
-has-order-requires g c = record {
+pub has_order-requires : goal.has_order-requires
+has_order-requires g c = record {
   few = c.requires;
   free = omega (arith, trial_count c.loop-i.invariant c.loop-i-test.true);
   none = trial_none c.loop-i.invariant c.loop-i-test.true;
 }
 
 -- the answer is the one of the definition
-told : (g : _) (c : goal.Joined-not-has-order g) → orderable (by_number (everywhere (g.B.Domain.response c.args.bank.now)) (row_at c.args.rows.now)) (above (take (length c.args.rows.now) (set c.loop-i.table c.loop-i.i Absent))) ≡ c.has_order.result
+told : (g : _) (c : goal.Joined-not-has_order g) → orderable (by_number (everywhere (g.B.Domain.response c.args.bank.now)) (row_at c.args.rows.now)) (above (take (length c.args.rows.now) (set c.loop-i.table c.loop-i.i Absent))) ≡ c.has_order.result
 told g c =
     let n : length (above (take (length c.args.rows.now) (set c.loop-i.table c.loop-i.i Absent))) ≡ c.loop-i.size - 1 = omega (arith, trial_count c.loop-i.invariant c.loop-i-test.true) in
     ap (λ k. is_some (greedy (by_number (everywhere (g.B.Domain.response c.args.bank.now)) (row_at c.args.rows.now)) k (above (take (length c.args.rows.now) (set c.loop-i.table c.loop-i.i Absent))) [])) n ∙ sym c.has_order.ensures
 
 pub loop-i-preserved : goal.loop-i-preserved
-loop-i-preserved g c = elim c.if-not-has-order.branch [
-  | then-not-has-order w ↦ rw (w.table-is, w.size-is) (dropping_out c.loop-i.invariant c.loop-i-test.true (told g c ∙ w.if-not-has-order.true))
-  | else-not-has-order w ↦ rw (w.table-is, w.size-is) (dropping_kept c.loop-i.invariant c.loop-i-test.true (told g c ∙ w.if-not-has-order.false))
+loop-i-preserved g c = elim c.if-not-has_order.branch [
+  | then-not-has_order w ↦ rw (w.table-is, w.size-is) (dropping_out c.loop-i.invariant c.loop-i-test.true (told g c ∙ w.if-not-has_order.true))
+  | else-not-has_order w ↦ rw (w.table-is, w.size-is) (dropping_kept c.loop-i.invariant c.loop-i-test.true (told g c ∙ w.if-not-has_order.false))
 ]
 
 pub returns : goal.returns

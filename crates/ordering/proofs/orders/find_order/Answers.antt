@@ -15,4 +15,4 @@ pub returns-in-Some : goal.returns-in-Some
 returns-in-Some g c = placed c.args.rows.now c.requires (everywhere_laws g.met.B.Domain.duties c.args.bank.now) c.arrange.new.order c.in-Some.examinations c.arrange.ensures.rest c.in-Some.ensures.arranged
 
 pub returns-in-None : goal.returns-in-None
-returns-in-None g c = refused c.args.rows.now c.requires (everywhere_laws g.met.B.Domain.duties c.args.bank.now) c.arrange.new.order c.find-conflict.result c.in-None.ensures.arranged c.find-conflict.ensures.table c.find-conflict.ensures.rest c.find-conflict.ensures.size
+returns-in-None g c = refused c.args.rows.now c.requires (everywhere_laws g.met.B.Domain.duties c.args.bank.now) c.arrange.new.order c.find_conflict.result c.in-None.ensures.arranged c.find_conflict.ensures.table c.find_conflict.ensures.rest c.find_conflict.ensures.size

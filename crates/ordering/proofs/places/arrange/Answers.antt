@@ -10,16 +10,16 @@ use Rattle.ordering.proofs.places.arrange.Goals as goal
 pub loop-left-init : goal.loop-left-init
 loop-left-init g c = placing_none (everywhere (g.B.Domain.response c.args.bank.now)) c.args.rows.now c.args.places.now c.args.order.now c.args.count c.requires.long c.told-order c.requires.fits c.requires.free c.requires.none
 
-pub overflow-add-examinations : goal.overflow-add-examinations
-overflow-add-examinations g c =
+pub overflow_add-examinations : goal.overflow_add-examinations
+overflow_add-examinations g c =
     let test = tested (everywhere (g.B.Domain.response c.args.bank.now)) c.args.rows.now c.loop-left.places in
     omega (arith, c.loop-left.invariant.few, c.loop-left.invariant.free, c.loop-left.invariant.most, c.loop-left.invariant.fits, c.examine-looked.ensures.examinations, examined_most test (above c.loop-left.places))
 
 pub bounds-places-f : goal.bounds-places-f
 bounds-places-f g c = frame_within (tested (everywhere (g.B.Domain.response c.args.bank.now)) c.args.rows.now c.loop-left.places) c.loop-left.places c.in-Some.f (sym c.examine-looked.ensures.frame ∙ c.in-Some.is)
 
-pub overflow-cast-order : goal.overflow-cast-order
-overflow-cast-order g c =
+pub overflow_cast-order : goal.overflow_cast-order
+overflow_cast-order g c =
     let w = frame_within (tested (everywhere (g.B.Domain.response c.args.bank.now)) c.args.rows.now c.loop-left.places) c.loop-left.places c.in-Some.f (sym c.examine-looked.ensures.frame ∙ c.in-Some.is) in
     omega arith
 

@@ -4,10 +4,10 @@ use Rattle.packing.specs.Holds.{held}
 use Rattle.packing.proofs.choose.choose.Goals as goal
 
 pub loop-n-preserved : goal.loop-n-preserved
-loop-n-preserved g c = rw add-one (c.better-best.ensures ∙ ap₂ lighter c.loop-n.invariant c.join-offer.ensures)
+loop-n-preserved g c = rw add-one (c.better-best.ensures ∙ ap₂ lighter c.loop-n.invariant c.join_offer.ensures)
 
 pub returns : goal.returns
 unfolding choice
 returns g c =
-    let all : c.loop-n.n ≡ c.args.tables.now.frames = omega (arith, c.frame-count-n-end.ensures.is) in
-    c.better.ensures ∙ ap₂ lighter (c.loop-n.invariant ∙ ap (lightest_below (growth_at (g.D.Domain.cost c.args.bank.now) (held c.args.tables.now) c.args.signal.now)) all) c.open-offer.ensures
+    let all : c.loop-n.n ≡ c.args.tables.now.frames = omega (arith, c.frame_count-n-end.ensures.is) in
+    c.better.ensures ∙ ap₂ lighter (c.loop-n.invariant ∙ ap (lightest_below (growth_at (g.D.Domain.cost c.args.bank.now) (held c.args.tables.now) c.args.signal.now)) all) c.open_offer.ensures

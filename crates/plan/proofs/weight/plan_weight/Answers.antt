@@ -8,15 +8,15 @@ use Rattle.packing.specs.Packings.{row}
 use Rattle.packing.proofs.Sounds.{to_sound, lawful_rows}
 use Rattle.plan.proofs.weight.plan_weight.Goals as goal
 
-pub rows-weight-requires : goal.rows-weight-requires
-rows-weight-requires g c =
+pub rows_weight-requires : goal.rows_weight-requires
+rows_weight-requires g c =
     let p = held c.args.tables.now in
     let h = to_sound p c.args.tables.now.ok in
     record {
-      lawful = subst (All Lawful) (sym c.frame-rows.ensures) (lawful_rows p h.frames);
-      few = omega (arith, ap length c.frame-rows.ensures, length-map-range_with_len (λ k. row p k) 0 p.frames, h.room);
+      lawful = subst (All Lawful) (sym c.frame_rows.ensures) (lawful_rows p h.frames);
+      few = omega (arith, ap length c.frame_rows.ensures, length-map-range_with_len (λ k. row p k) 0 p.frames, h.room);
     }
 
 pub returns : goal.returns
 returns g c =
-    c.rows_weight.ensures ∙ ap (rows_weight (g.B.Domain.cost c.args.bank.now)) c.frame-rows.ensures
+    c.rows_weight.ensures ∙ ap (rows_weight (g.B.Domain.cost c.args.bank.now)) c.frame_rows.ensures

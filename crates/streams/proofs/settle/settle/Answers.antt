@@ -14,7 +14,7 @@ pub returns-then-next-w : goal.returns-then-next-w
 returns-then-next-w c =
     let inv = c.loop-w.invariant in
     let rule : ℕ → ℕ = busy c.args.streams.now c.args.base c.args.ahead in
-    let served : c.loop-w.w ≡ rule c.loop-w.w = sym c.if-next-w.true ∙ ap (λ n. c.args.base + n) c.demand-in.ensures.is in
+    let served : c.loop-w.w ≡ rule c.loop-w.w = sym c.if-next-w.true ∙ ap (λ n. c.args.base + n) c.demand_in.ensures.is in
     record { is = is_solution rule c.args.from 4000000000 c.requires.early (Some c.loop-w.w) (inv.0, c.loop-w-test.true, served, λ v a b p. omega (arith, inv.2 v a p)); soon = c.loop-w-test.true }
 
 pub loop-w-preserved : goal.loop-w-preserved
@@ -22,9 +22,9 @@ loop-w-preserved c =
     let x = c.args.ahead in
     let d = demand c.args.streams.now in
     let up : (v w : ℕ) → v ≤ w → d (v + x) ≤ d (w + x) = λ v w h. demand_mono c.args.streams.now c.requires.fit (v + x) (w + x) (omega arith) in
-    let h : c.demand-in.result ≡ d (c.loop-w.w + x) = c.demand-in.ensures.is in
+    let h : c.demand_in.result ≡ d (c.loop-w.w + x) = c.demand_in.ensures.is in
     let inv = c.loop-w.invariant in
-    let next : ℕ = c.args.base + c.demand-in.result in
+    let next : ℕ = c.args.base + c.demand_in.result in
     let on : c.loop-w.w ≤ next = omega (arith, inv.1, h) in
     (omega (arith, inv.0, on), omega (arith, h, up c.loop-w.w next on), λ v a p. omega (arith, h, p, up c.loop-w.w v (inv.2 v a p)))
 

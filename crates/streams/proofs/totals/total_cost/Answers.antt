@@ -10,8 +10,8 @@ pub loop-stream-init : goal.loop-stream-init
 unfolding total
 loop-stream-init c = (omega arith, refl)
 
-pub overflow-add-sum : goal.overflow-add-sum
-overflow-add-sum c = let fit = All-get_or Fit c.args.streams.now c.loop-stream.stream-index no_stream c.loop-stream-test.true c.requires.fit in record { fits = omega (arith, fit.priced, c.loop-stream.invariant.0) }
+pub overflow_add-sum : goal.overflow_add-sum
+overflow_add-sum c = let fit = All-get_or Fit c.args.streams.now c.loop-stream.stream-index no_stream c.loop-stream-test.true c.requires.fit in record { fits = omega (arith, fit.priced, c.loop-stream.invariant.0) }
 
 pub loop-stream-preserved : goal.loop-stream-preserved
 unfolding total

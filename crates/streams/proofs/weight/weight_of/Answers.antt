@@ -3,4 +3,4 @@ use Rattle.streams.proofs.weight.weight_of.Goals as goal
 
 pub returns : goal.returns
 unfolding weight
-returns c = c.div-up.ensures.is
+returns c = c.div_up.ensures.is

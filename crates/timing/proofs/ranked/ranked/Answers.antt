@@ -10,8 +10,8 @@ loop-i-preserved c =
     let room : i < length table = omega (arith, c.loop-i.invariant.0) in (
       simp length-set c.loop-i.invariant.0,
       below_more _ i
-          (λ j l. let ne : j ≢ i = omega arith in get_or-set_other table i j c.rank-of.result Absent ne ∙ c.loop-i.invariant.1 j l)
-          (get_or-set_same table i c.rank-of.result Absent room ∙ c.rank-of.ensures),
+          (λ j l. let ne : j ≢ i = omega arith in get_or-set_other table i j c.rank_of.result Absent ne ∙ c.loop-i.invariant.1 j l)
+          (get_or-set_same table i c.rank_of.result Absent room ∙ c.rank_of.ensures),
     )
 
 pub returns : goal.returns

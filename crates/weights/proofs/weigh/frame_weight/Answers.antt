@@ -5,7 +5,7 @@ use Rattle.weights.proofs.weigh.frame_weight.Goals as goal
 
 pub loop-k-preserved : goal.loop-k-preserved
 loop-k-preserved g c =
-    (omega (arith, c.weight-in-sum.ensures.low), rw add-one (ap₂ ◌+◌ c.loop-k.invariant.1 c.weight-in-sum.ensures.is))
+    (omega (arith, c.weight_in-sum.ensures.low), rw add-one (ap₂ ◌+◌ c.loop-k.invariant.1 c.weight_in-sum.ensures.is))
 
 pub returns : goal.returns
 unfolding row_weight

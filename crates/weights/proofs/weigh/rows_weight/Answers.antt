@@ -6,13 +6,13 @@ use Rattle.frames.specs.Limits.{Lawful}
 use Rattle.weights.specs.Weights.{row_weight, rows_weight}
 use Rattle.weights.proofs.weigh.rows_weight.Goals as goal
 
-pub row-weight-sum-requires : goal.row-weight-sum-requires
-row-weight-sum-requires g c = All-get_or Lawful _ _ _ c.loop-row-test.true c.requires.lawful
+pub row_weight-sum-requires : goal.row_weight-sum-requires
+row_weight-sum-requires g c = All-get_or Lawful _ _ _ c.loop-row-test.true c.requires.lawful
 
 pub loop-row-preserved : goal.loop-row-preserved
 loop-row-preserved g c =
     let w = row_weight (g.D.Domain.cost c.args.bank.now) in
-    (omega (arith, c.row-weight-sum.ensures.low), ap₂ ◌+◌ c.loop-row.invariant.1 c.row-weight-sum.ensures.is ∙ sym (sum_by_more w c.args.rows.now c.loop-row.row-index _ c.loop-row-test.true))
+    (omega (arith, c.row_weight-sum.ensures.low), ap₂ ◌+◌ c.loop-row.invariant.1 c.row_weight-sum.ensures.is ∙ sym (sum_by_more w c.args.rows.now c.loop-row.row-index _ c.loop-row-test.true))
 
 pub returns : goal.returns
 unfolding rows_weight

@@ -9,14 +9,14 @@ returns-then-not-carries g c = record {
   low = omega arith;
 }
 
-pub weight-of-requires : goal.weight-of-requires
-weight-of-requires g c = record {
+pub weight_of-requires : goal.weight_of-requires
+weight_of-requires g c = record {
   priced = omega (arith, c.cost.ensures, cost_le _ _ _ g.met.D.Domain.duties c.args.bank.now c.args.k _ (payload_le c.args.frame.now.fill));
   paced = (omega (arith, ap (λ r. r.period) c.row-row.ensures, c.args.frame.now.paced.0), omega (arith, ap (λ r. r.period) c.row-row.ensures, c.args.frame.now.paced.1));
 }
 
 pub returns : goal.returns
 returns g c = record {
-  is = c.weight-of.ensures.is ∙ weighed (g.D.Domain.cost c.args.bank.now) c.args.k _ _ c.row-row.ensures _ (sym c.if-not-carries.ensures) c.cost.ensures;
-  low = c.weight-of.ensures.low;
+  is = c.weight_of.ensures.is ∙ weighed (g.D.Domain.cost c.args.bank.now) c.args.k _ _ c.row-row.ensures _ (sym c.if-not-carries.ensures) c.cost.ensures;
+  low = c.weight_of.ensures.low;
 }

@@ -8,26 +8,26 @@ use Rattle.bus.proofs.Instances.{blocking_is}
 use Rattle.bus.specs.Wiring.{bus_kept}
 use Rattle.bus.proofs.bus.Bus.busy_period.Goals as goal
 
-pub returns-in-err-view : goal.returns-in-err-view
-returns-in-err-view c = c.from-residual.ensures ∙ c.in-err-view.ensures _
+pub returns-in_err-view : goal.returns-in_err-view
+returns-in_err-view c = c.from_residual.ensures ∙ c.in_err-view.ensures _
 
-pub largest-cost-requires : goal.largest-cost-requires
-largest-cost-requires c =
-    subst (All Fit) (sym c.as-slice-2.ensures) (seen_below bus_kept c.args.self.now _ _ _ c.in-ok-view.view c.in-ok-view.ensures)
+pub largest_cost-requires : goal.largest_cost-requires
+largest_cost-requires c =
+    subst (All Fit) (sym c.as_slice-2.ensures) (seen_below bus_kept c.args.self.now _ _ _ c.in_ok-view.view c.in_ok-view.ensures)
 
-pub busy-from-requires : goal.busy-from-requires
-busy-from-requires c =
+pub busy_from-requires : goal.busy_from-requires
+busy_from-requires c =
     let d = c.args.self.now in
-    let v = c.in-ok-view.view in
-    let seen = c.in-ok-view.ensures in
+    let v = c.in_ok-view.view in
+    let seen = c.in_ok-view.ensures in
     record {
       own = (seen_own bus_kept d _ _ _ v seen).fit;
-      over = subst (All Fit) (sym c.as-slice.ensures) (seen_above bus_kept d _ _ _ v seen);
-      few = omega (arith, ap length c.as-slice.ensures, listed_few v.above);
-      blocked = omega (arith, c.largest-cost.ensures.low);
+      over = subst (All Fit) (sym c.as_slice.ensures) (seen_above bus_kept d _ _ _ v seen);
+      few = omega (arith, ap length c.as_slice.ensures, listed_few v.above);
+      blocked = omega (arith, c.largest_cost.ensures.low);
     }
 
 pub returns : goal.returns
 returns c =
-    let v = c.in-ok-view.view in
-    c.busy-from.ensures.is ∙ ap (busy_period v.own c.as-slice.result.now) (blocking_is _ _ c.largest-cost.ensures.is) ∙ seen_is (bus_price c.args.self.now) _ _ _ v c.in-ok-view.ensures bus_busy _ _ c.as-slice.ensures c.as-slice-2.ensures
+    let v = c.in_ok-view.view in
+    c.busy_from.ensures.is ∙ ap (busy_period v.own c.as_slice.result.now) (blocking_is _ _ c.largest_cost.ensures.is) ∙ seen_is (bus_price c.args.self.now) _ _ _ v c.in_ok-view.ensures bus_busy _ _ c.as_slice.ensures c.as_slice-2.ensures

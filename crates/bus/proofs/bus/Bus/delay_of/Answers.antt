@@ -6,12 +6,12 @@ use Rattle.bus.proofs.Instances.{few_instances}
 use Rattle.bus.specs.Wiring.{short}
 use Rattle.bus.proofs.bus.Bus.delay_of.Goals as goal
 
-pub overflow-mul-q : goal.overflow-mul-q
-overflow-mul-q c =
+pub overflow_mul-q : goal.overflow_mul-q
+overflow_mul-q c =
     record { fits = omega (arith, few_instances c.args.own c.requires.own.fit c.requires.within.0 c.args.q (busy_soon c.args.own c.args.above.now c.args.b c.requires.within.0 (sym c.requires.within.1)) c.requires.within.2) }
 
-pub overflow-add-b : goal.overflow-add-b
-overflow-add-b c =
+pub overflow_add-b : goal.overflow_add-b
+overflow_add-b c =
     record { fits = omega (arith, c.requires.blocked, few_instances c.args.own c.requires.own.fit c.requires.within.0 c.args.q (busy_soon c.args.own c.args.above.now c.args.b c.requires.within.0 (sym c.requires.within.1)) c.requires.within.2) }
 
 pub settle-requires : goal.settle-requires

@@ -7,22 +7,22 @@ use Rattle.bus.specs.Buses.{bus_price, bus_instance}
 use Rattle.bus.specs.Wiring.{bus_kept}
 use Rattle.bus.proofs.bus.Bus.instance.Goals as goal
 
-pub returns-in-err-view : goal.returns-in-err-view
-returns-in-err-view c = c.from-residual.ensures ∙ c.in-err-view.ensures _
+pub returns-in_err-view : goal.returns-in_err-view
+returns-in_err-view c = c.from_residual.ensures ∙ c.in_err-view.ensures _
 
-pub instance-of-requires : goal.instance-of-requires
-instance-of-requires c =
+pub instance_of-requires : goal.instance_of-requires
+instance_of-requires c =
     let d = c.args.self.now in
-    let v = c.in-ok-view.view in
-    let seen = c.in-ok-view.ensures in
+    let v = c.in_ok-view.view in
+    let seen = c.in_ok-view.ensures in
     record {
       own = seen_own bus_kept d _ _ _ v seen;
-      over = subst (All Fit) (sym c.as-slice.ensures) (seen_above bus_kept d _ _ _ v seen);
-      under = subst (All Fit) (sym c.as-slice-2.ensures) (seen_below bus_kept d _ _ _ v seen);
-      few = omega (arith, ap length c.as-slice.ensures, listed_few v.above);
+      over = subst (All Fit) (sym c.as_slice.ensures) (seen_above bus_kept d _ _ _ v seen);
+      under = subst (All Fit) (sym c.as_slice-2.ensures) (seen_below bus_kept d _ _ _ v seen);
+      few = omega (arith, ap length c.as_slice.ensures, listed_few v.above);
     }
 
 pub returns : goal.returns
 returns c =
     let d = c.args.self.now in
-    c.instance-of.ensures ∙ seen_is (bus_price d) _ _ _ c.in-ok-view.view c.in-ok-view.ensures (bus_instance d.arbitration c.args.q) _ _ c.as-slice.ensures c.as-slice-2.ensures
+    c.instance_of.ensures ∙ seen_is (bus_price d) _ _ _ c.in_ok-view.view c.in_ok-view.ensures (bus_instance d.arbitration c.args.q) _ _ c.as_slice.ensures c.as_slice-2.ensures

@@ -5,8 +5,8 @@ use Rattle.frames.proofs.frame.Frame.payload.Goals as goal
 
 pub unwrap-requires : goal.unwrap-requires
 unwrap-requires c =
-    fits_some c.args.self.now.fill c.args.self.now.filled.1 c.payload-of.result c.payload-of.ensures
+    fits_some c.args.self.now.fill c.args.self.now.filled.1 c.payload_of.result c.payload_of.ensures
 
 pub returns : goal.returns
 returns c =
-    sym (ap or_full c.unwrap.ensures) ∙ payload_is c.args.self.now.fill c.payload-of.result c.payload-of.ensures
+    sym (ap or_full c.unwrap.ensures) ∙ payload_is c.args.self.now.fill c.payload_of.result c.payload_of.ensures

@@ -8,7 +8,7 @@ use Rattle.packing.proofs.table.SignalTable.close_up.Goals as goal
 
 pub loop-k-preserved : goal.loop-k-preserved
 loop-k-preserved c =
-    (ap (set c.loop-k.self.entries c.loop-k.k) c.moved-up.ensures ∙ map_over_more (lower c.args.f) c.args.self.now.entries c.loop-k.self.entries c.loop-k.k _ (omega (arith, ap length c.loop-k.invariant.0, mapped_length (lower c.args.f) c.args.self.now.entries c.loop-k.k)) c.loop-k.invariant.0 (get_or_default c.loop-k.self.entries c.loop-k.k _ _ (omega arith)), c.loop-k.invariant.1)
+    (ap (set c.loop-k.self.entries c.loop-k.k) c.moved_up.ensures ∙ map_over_more (lower c.args.f) c.args.self.now.entries c.loop-k.self.entries c.loop-k.k _ (omega (arith, ap length c.loop-k.invariant.0, mapped_length (lower c.args.f) c.args.self.now.entries c.loop-k.k)) c.loop-k.invariant.0 (get_or_default c.loop-k.self.entries c.loop-k.k _ _ (omega arith)), c.loop-k.invariant.1)
 
 pub returns : goal.returns
 returns c =

@@ -6,9 +6,9 @@ use Rattle.packing.specs.Packings.{packed, closed_up, lower}
 use Rattle.packing.specs.Tables.{listed}
 use Rattle.packing.proofs.table.SignalTable.leave.Goals as goal
 
-pub returns-then-has-rider : goal.returns-then-has-rider
-returns-then-has-rider c = record {
-  is = sym (cond-true _ _ _ (sym (c.if-has-rider.ensures ∙ ap (any_in c.args.f) c.used.ensures)));
+pub returns-then-has_rider : goal.returns-then-has_rider
+returns-then-has_rider c = record {
+  is = sym (cond-true _ _ _ (sym (c.if-has_rider.ensures ∙ ap (any_in c.args.f) c.used.ensures)));
   count = refl;
 }
 
@@ -17,6 +17,6 @@ closes f es fs n t e = ap (λ l. packed l (n - 1)) e ∙ sym (cond-false _ _ _ t
 
 pub returns : goal.returns
 returns c = record {
-  is = closes c.args.f (listed c.args.self.now) (listed c.close-up.new.self) c.args.frames (sym (c.if-has-rider.ensures ∙ ap (any_in c.args.f) c.used.ensures)) c.close-up.ensures.listed;
-  count = c.close-up.ensures.count;
+  is = closes c.args.f (listed c.args.self.now) (listed c.close_up.new.self) c.args.frames (sym (c.if-has_rider.ensures ∙ ap (any_in c.args.f) c.used.ensures)) c.close_up.ensures.listed;
+  count = c.close_up.ensures.count;
 }

@@ -5,15 +5,15 @@ use Rattle.packing.proofs.Placing.{room_at}
 use Rattle.packing.proofs.Sounds.{to_sound}
 use Rattle.packing.proofs.tables.Tables.place.Goals as goal
 
-pub row-with-row-requires : goal.row-with-row-requires
-row-with-row-requires c =
+pub row_with-row-requires : goal.row_with-row-requires
+row_with-row-requires c =
     room_at (held c.args.self.now) c.args.signal c.args.n (to_sound _ c.args.self.now.ok) c.requires
 
 pub push-requires : goal.push-requires
 push-requires c = omega (arith, c.requires.few, c.args.self.now.counted)
 
-pub invariant-of-self : goal.invariant-of-self
-invariant-of-self c =
+pub invariant_of-self : goal.invariant_of-self
+invariant_of-self c =
     let old = c.args.self.now in
     let list = c.push.ensures.listed in (
       omega (arith, c.requires.few, old.counted, c.push.ensures.count),
@@ -23,7 +23,7 @@ invariant-of-self c =
           omega (arith, c.max-self.ensures, old.room, c.requires.room),
           (
             put_ok old c.args.signal c.args.n c.requires c.push.new.self _ list c.max-self.ensures,
-            (put_kept old c.args.signal c.args.n c.requires c.push.new.self _ list c.max-self.ensures _ c.row-with-row.ensures (omega arith), tt),
+            (put_kept old c.args.signal c.args.n c.requires c.push.new.self _ list c.max-self.ensures _ c.row_with-row.ensures (omega arith), tt),
           ),
         ),
       ),

@@ -21,8 +21,8 @@ pub used-requires : goal.used-requires
 used-requires c =
     omega (arith, c.leave-self.ensures.count, c.remove-gone.ensures.count, c.args.self.now.few)
 
-pub gather-all-requires : goal.gather-all-requires
-gather-all-requires c =
+pub gather_all-requires : goal.gather_all-requires
+gather_all-requires c =
     let e = c.remove-gone.ensures in
     let s = out_sound c.args.self.now c.args.i c.requires c.remove-gone.new.self c.remove-gone.result e.is e.listed c.leave-self.new.self c.leave-self.result c.leave-self.ensures.is in
     record {
@@ -30,8 +30,8 @@ gather-all-requires c =
       fills = λ k l. omega (arith, ap (λ es. (row_by (riders k es)).fill) c.used.ensures, (s.frames k l).filled.1);
     }
 
-pub invariant-of-self : goal.invariant-of-self
-invariant-of-self c =
+pub invariant_of-self : goal.invariant_of-self
+invariant_of-self c =
     let e = c.remove-gone.ensures in
     let s = out_sound c.args.self.now c.args.i c.requires c.remove-gone.new.self c.remove-gone.result e.is e.listed c.leave-self.new.self c.leave-self.result c.leave-self.ensures.is in (
       omega (arith, c.leave-self.ensures.count, e.count, c.args.self.now.few),
@@ -41,7 +41,7 @@ invariant-of-self c =
           s.room,
           (
             from_sound _ s,
-            (c.gather-all.ensures ∙ ap (λ es. rows_of es c.leave-self.result) c.used.ensures, tt),
+            (c.gather_all.ensures ∙ ap (λ es. rows_of es c.leave-self.result) c.used.ensures, tt),
           ),
         ),
       ),

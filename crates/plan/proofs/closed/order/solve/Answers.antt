@@ -5,10 +5,10 @@ use Rattle.ordering.specs.Answers.{Answered}
 use Rattle.plan.proofs.Readings.{rows_long}
 use Rattle.plan.proofs.closed.order.solve.Goals as goal
 
-pub find-order-requires : goal.find-order-requires
-find-order-requires g c =
-    omega (arith, ap length c.frame-rows.ensures, rows_long (held c.args.tables.now), c.args.tables.now.room)
+pub find_order-requires : goal.find_order-requires
+find_order-requires g c =
+    omega (arith, ap length c.frame_rows.ensures, rows_long (held c.args.tables.now), c.args.tables.now.room)
 
 pub returns : goal.returns
 returns g c =
-    subst (λ rs. Answered (everywhere (g.B.Domain.response c.args.bank.now)) rs c.find-order.result) c.frame-rows.ensures c.find-order.ensures
+    subst (λ rs. Answered (everywhere (g.B.Domain.response c.args.bank.now)) rs c.find_order.result) c.frame_rows.ensures c.find_order.ensures

@@ -5,4 +5,4 @@ use Rattle.plan.proofs.closed.readings.identify.Goals as goal
 
 pub returns-in-Ordered : goal.returns-in-Ordered
 returns-in-Ordered c =
-    identifier_is (held c.args.tables.now) c.args.standing.now c.args.n (omega (arith, c.frame-count-frames.ensures.is)) c.in-Ordered.placement c.in-Ordered.is c.frame-count-frames.result c.place-of-place.result c.frame-count-frames.ensures.is c.place-of-place.ensures.is
+    identifier_is (held c.args.tables.now) c.args.standing.now c.args.n (omega (arith, c.frame_count-frames.ensures.is)) c.in-Ordered.placement c.in-Ordered.is c.frame_count-frames.result c.place_of-place.result c.frame_count-frames.ensures.is c.place_of-place.ensures.is

@@ -12,13 +12,13 @@ use Rattle.plan.specs.Said.{unless_refused}
 use Rattle.plan.proofs.Asking.{enter_refused, enter_done}
 use Rattle.plan.proofs.draft.Draft.enter.Goals as goal
 
-pub returns-in-err-choice : goal.returns-in-err-choice
-returns-in-err-choice g c =
+pub returns-in_err-choice : goal.returns-in_err-choice
+returns-in_err-choice g c =
     let p = held c.args.self.now.tables in
-    let e = err_from_is_err_and c.from-residual.result c.from-residual.ensures.1 in
+    let e = err_from_is_err_and c.from_residual.result c.from_residual.ensures.1 in
     record {
-      says = rw (e.1, e.2) (sym (ap (unless_refused []) c.in-err-choice.ensures));
-      holds = sym (enter_refused _ _ p c.args.signal _ c.in-err-choice.ensures);
+      says = rw (e.1, e.2) (sym (ap (unless_refused []) c.in_err-choice.ensures));
+      holds = sym (enter_refused _ _ p c.args.signal _ c.in_err-choice.ensures);
       bank = refl;
       packed = well_packed p (to_sound _ c.args.self.now.tables.ok);
       lightest = rw e.1 tt;
@@ -30,7 +30,7 @@ returns g c =
     let p = held c.args.self.now.tables in
     let s = c.args.signal in
     let h = to_sound p c.args.self.now.tables.ok in
-    let asked = c.in-ok-choice.ensures in
+    let asked = c.in_ok-choice.ensures in
     record {
       says = sym (ap (unless_refused []) asked.0);
       holds = c.place.ensures ∙ sym (enter_done _ _ p s _ asked.0 asked.1);

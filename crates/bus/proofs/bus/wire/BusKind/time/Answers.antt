@@ -7,47 +7,47 @@ use Rattle.bus.specs.Wiring.{short}
 use Rattle.bus.proofs.bus.wire.BusKind.time.Goals as goal
 use Rattle.bus.proofs.bus.wire.BusKind.time.Goals.{then-time-worst, else-time-worst}
 
-pub busy-from-requires : goal.busy-from-requires
-busy-from-requires c =
-    record { own = c.requires.own.fit; over = c.requires.over; few = c.requires.few; blocked = omega (arith, c.largest-cost-b.ensures.low) }
+pub busy_from-requires : goal.busy_from-requires
+busy_from-requires c =
+    record { own = c.requires.own.fit; over = c.requires.over; few = c.requires.few; blocked = omega (arith, c.largest_cost-b.ensures.low) }
 
-pub returns-in-err-busy : goal.returns-in-err-busy
-returns-in-err-busy c =
+pub returns-in_err-busy : goal.returns-in_err-busy
+returns-in_err-busy c =
     let a = c.args.self.now.arbitration in
     let own = c.args.own in
     let us = c.args.above.now in
-    let is = c.from-residual.ensures ∙ no_end a own us _ c.in-err-busy.ensures.is ∙ ap (response_by a own us) (blocking_is _ _ c.largest-cost-b.ensures.is) in
+    let is = c.from_residual.ensures ∙ no_end a own us _ c.in_err-busy.ensures.is ∙ ap (response_by a own us) (blocking_is _ _ c.largest_cost-b.ensures.is) in
     record { is = is; words = subst (BusAnswer a own us (blocking c.args.below.now)) (sym is) (response_answer a own us (blocking c.args.below.now) c.requires.own.fit (short c.args.self.now own c.requires.own) c.requires.over) }
 
 pub loop-q-init : goal.loop-q-init
 loop-q-init c = instances_none _ _ _ _
 
-pub delay-of-requires : goal.delay-of-requires
-delay-of-requires c =
+pub delay_of-requires : goal.delay_of-requires
+delay_of-requires c =
     record {
       own = c.requires.own;
       over = c.requires.over;
       few = c.requires.few;
-      blocked = omega (arith, c.largest-cost-b.ensures.low);
-      within = (c.in-ok-busy.busy, c.in-ok-busy.ensures.is, omega (arith, c.div-up-instances.ensures.is));
+      blocked = omega (arith, c.largest_cost-b.ensures.low);
+      within = (c.in_ok-busy.busy, c.in_ok-busy.ensures.is, omega (arith, c.div_up-instances.ensures.is));
       rises = c.loop-q.invariant.rises;
       below = c.loop-q.invariant.below;
     }
 
-pub overflow-sub-time : goal.overflow-sub-time
-overflow-sub-time c = omega (arith, c.delay-of.ensures.begins)
+pub overflow_sub-time : goal.overflow_sub-time
+overflow_sub-time c = omega (arith, c.delay_of.ensures.begins)
 
 pub loop-q-preserved : goal.loop-q-preserved
 loop-q-preserved c =
-    let time = (c.delay-of.result + c.args.own.cost) - c.loop-q.q * c.args.own.period in
+    let time = (c.delay_of.result + c.args.own.cost) - c.loop-q.q * c.args.own.period in
     let worst : c.if-time-worst.worst ≡ max c.loop-q.worst time = elim c.if-time-worst.branch [ then-time-worst w ↦ omega (arith, w.worst_is) | else-time-worst w ↦ omega (arith, w.worst_is) ] in
-    instances_more c.args.self.now.arbitration c.args.own c.args.above.now c.largest-cost-b.result c.requires.over c.loop-q.q c.delay-of.result c.delay-of.ensures.is c.loop-q.worst c.loop-q.known _ _ c.loop-q.invariant refl worst
+    instances_more c.args.self.now.arbitration c.args.own c.args.above.now c.largest_cost-b.result c.requires.over c.loop-q.q c.delay_of.result c.delay_of.ensures.is c.loop-q.worst c.loop-q.known _ _ c.loop-q.invariant refl worst
 
 pub returns : goal.returns
 returns c =
     let a = c.args.self.now.arbitration in
     let own = c.args.own in
     let us = c.args.above.now in
-    let all : c.loop-q.q ≡ c.div-up-instances.result = omega arith in
-    let is = worst_found a own us _ c.in-ok-busy.busy c.loop-q.q c.loop-q.worst c.in-ok-busy.ensures.is (all ∙ c.div-up-instances.ensures.is) c.loop-q.invariant.worst_is ∙ ap (response_by a own us) (blocking_is _ _ c.largest-cost-b.ensures.is) in
+    let all : c.loop-q.q ≡ c.div_up-instances.result = omega arith in
+    let is = worst_found a own us _ c.in_ok-busy.busy c.loop-q.q c.loop-q.worst c.in_ok-busy.ensures.is (all ∙ c.div_up-instances.ensures.is) c.loop-q.invariant.worst_is ∙ ap (response_by a own us) (blocking_is _ _ c.largest_cost-b.ensures.is) in
     record { is = is; words = subst (BusAnswer a own us (blocking c.args.below.now)) (sym is) (response_answer a own us (blocking c.args.below.now) c.requires.own.fit (short c.args.self.now own c.requires.own) c.requires.over) }
