@@ -6,5 +6,5 @@ use crate::domain::Domain;
 // Two questions about the same record with the same records above and below have the same answer, an answer is
 // bounded, and it does not grow when frames are taken out of either set or moved from above to below.
 pub fn calls_keep_duties<D: Domain>(domain: &D, k: usize)
-    ensures { CallLaws (response domain.now k) }
+    ensures { CallLaws (D.response domain.now k) }
 {}

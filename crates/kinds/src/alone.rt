@@ -11,7 +11,7 @@ use frames::frame::Frame;
 use frames::row::Row;
 
 pub fn cost_alone<K: Kind>(kind: &K, k: usize, frame: &Frame) -> u64
-    ensures { result ≡ alone_cost price kind.now k (payload frame.now.fill) }
+    ensures { result ≡ alone_cost K.price kind.now k (payload frame.now.fill) }
 {
     if k == 0 {
         kind.price(frame.payload())
@@ -27,7 +27,7 @@ pub fn answer_alone<K: Kind>(
     places: &[Place],
     f: usize,
 ) -> Option<u64>
-    ensures { result ≡ asked (alone_response price time kind.now k) rows.now places.now f }
+    ensures { result ≡ asked (alone_response K.price K.time kind.now k) rows.now places.now f }
 {
     if k != 0 {
         return None;

@@ -39,7 +39,7 @@ fn place_of(places: &[Place], f: usize, i: usize) -> Place
 
 // A frame as a kind sees it.
 pub(crate) fn stream_of<K: Kind>(kind: &K, frame: &Frame) -> Stream
-    ensures { result ≡ stream_by (price kind.now) (row_of frame.now) }
+    ensures { result ≡ stream_by (K.price kind.now) (row_of frame.now) }
 {
     Stream {
         cost: kind.price(frame.payload()),
@@ -56,7 +56,7 @@ pub(crate) fn gather<K: Kind>(
     wanted: Place,
 ) -> Option<Streams>
     requires { length rows.now ≤ 96 }
-    ensures { Gathered (price kind.now) (standing wanted rows.now places.now f) result }
+    ensures { Gathered (K.price kind.now) (standing wanted rows.now places.now f) result }
 {
     let mut found = Streams::none();
     for i in 0..rows.len() {

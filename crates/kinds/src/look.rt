@@ -11,7 +11,7 @@ use frames::row::Row;
 // None where the question has no answer, whatever is asked: more than 96 rows, a number that is not in the list,
 // or a row that is told of and outside the limits of a record.
 pub fn look<K: Kind>(kind: &K, rows: &[Row], places: &[Place], f: usize) -> Option<View>
-    ensures { Looked (price kind.now) rows.now places.now f result }
+    ensures { Looked (K.price kind.now) rows.now places.now f result }
 {
     if rows.len() > 96 || f >= rows.len() {
         return None;

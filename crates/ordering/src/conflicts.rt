@@ -23,7 +23,7 @@ fn has_order<B: Domain>(bank: &B, rows: &[Row], mut places: [Place; 96], count: 
     requires few { length rows.now ≤ 96 }
     requires free { length (above (take (length rows.now) places)) ≡ count }
     requires none { below (take (length rows.now) places) ≡ [] }
-    ensures { result ≡ is_some (greedy (by_number (everywhere (response bank.now)) (row_at rows.now)) count (above (take (length rows.now) places)) []) }
+    ensures { result ≡ is_some (greedy (by_number (everywhere (B.response bank.now)) (row_at rows.now)) count (above (take (length rows.now) places)) []) }
 {
     let mut order = [0u8; 96];
     match arrange(bank, rows, &mut places[0..rows.len()], count, &mut order) {
@@ -35,9 +35,9 @@ fn has_order<B: Domain>(bank: &B, rows: &[Row], mut places: [Place; 96], count: 
 // All frames in list order: each is dropped without which the rest still has no order.
 pub(crate) fn find_conflict<B: Domain>(bank: &B, rows: &[Row]) -> Conflict
     requires { length rows.now ≤ 96 }
-    ensures table { above (take (length rows.now) result.table) ≡ conflict_of (everywhere (response bank.now)) rows.now no_row }
+    ensures table { above (take (length rows.now) result.table) ≡ conflict_of (everywhere (B.response bank.now)) rows.now no_row }
     ensures rest { drop (length rows.now) result.table ≡ drop (length rows.now) (replicate 96 Up) }
-    ensures size { result.size ≡ length (conflict_of (everywhere (response bank.now)) rows.now no_row) }
+    ensures size { result.size ≡ length (conflict_of (everywhere (B.response bank.now)) rows.now no_row) }
 {
     let mut table = [Place::Above; 96];
     let mut size = rows.len();

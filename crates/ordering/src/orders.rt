@@ -19,7 +19,7 @@ pub struct Placement {
 
 pub fn find_order<B: Domain>(bank: &B, rows: &[Row]) -> Result<Placement, Conflict>
     requires { length rows.now ≤ 96 }
-    ensures { Answered (everywhere (response bank.now)) rows.now result }
+    ensures { Answered (everywhere (B.response bank.now)) rows.now result }
 {
     let count = rows.len();
     let mut places = [Place::Above; 96];

@@ -19,8 +19,8 @@ pub struct Looked {
 // The frames above, which have no place, in list order: the first that is in time gets it.
 pub(crate) fn examine<B: Domain>(bank: &B, rows: &[Row], places: &[Place]) -> Looked
     requires { (length places.now ≡ length rows.now) × (length rows.now ≤ 96) }
-    ensures frame { result.frame ≡ found (tested (everywhere (response bank.now)) rows.now places.now) (above places.now) }
-    ensures examinations { result.examinations ≡ examined (tested (everywhere (response bank.now)) rows.now places.now) (above places.now) }
+    ensures frame { result.frame ≡ found (tested (everywhere (B.response bank.now)) rows.now places.now) (above places.now) }
+    ensures examinations { result.examinations ≡ examined (tested (everywhere (B.response bank.now)) rows.now places.now) (above places.now) }
 {
     let mut examinations = 0;
     for i in 0..rows.len() {
@@ -55,7 +55,7 @@ pub(crate) fn arrange<B: Domain>(
     requires fits { count ≤ 96 }
     requires none { below places.old ≡ [] }
     ensures rest { drop count order.new ≡ drop count order.old }
-    ensures arranged { Arranged (by_number (everywhere (response bank.now)) (row_at rows.now)) (above places.old) count order.new result }
+    ensures arranged { Arranged (by_number (everywhere (B.response bank.now)) (row_at rows.now)) (above places.old) count order.new result }
 {
     let mut examinations = 0;
     for left in (0..count).rev() {

@@ -18,7 +18,7 @@ const MAX_FILL: u8 = 64;
 fn join_offer<D: Domain>(bank: &D, tables: &Tables, signal: &Signal, n: usize) -> Option<Choice>
     requires lawful { LawfulSignal signal.now }
     requires within { n < (held tables.now).frames }
-    ensures { result ≡ at_frame n (growth_at (cost bank.now) (held tables.now) signal.now n) }
+    ensures { result ≡ at_frame n (growth_at (D.cost bank.now) (held tables.now) signal.now n) }
 {
     let row = tables.row(n);
     if row.sender != signal.sender {
@@ -37,7 +37,7 @@ fn join_offer<D: Domain>(bank: &D, tables: &Tables, signal: &Signal, n: usize) -
 // A new frame at the end of the list, where there is room for one.
 fn open_offer<D: Domain>(bank: &D, tables: &Tables, signal: &Signal) -> Option<Choice>
     requires { LawfulSignal signal.now }
-    ensures { result ≡ at_frame (held tables.now).frames (growth_at (cost bank.now) (held tables.now) signal.now (held tables.now).frames) }
+    ensures { result ≡ at_frame (held tables.now).frames (growth_at (D.cost bank.now) (held tables.now) signal.now (held tables.now).frames) }
 {
     let n = tables.frame_count();
     if n >= MAX_FRAMES {
@@ -52,7 +52,7 @@ fn open_offer<D: Domain>(bank: &D, tables: &Tables, signal: &Signal) -> Option<C
 // The frame where the weight grows least: an old one before a new one, an earlier one before a later one.
 pub fn choose<D: Domain>(bank: &D, tables: &Tables, signal: &Signal) -> Option<Choice>
     requires { LawfulSignal signal.now }
-    ensures { result ≡ choice (cost bank.now) (held tables.now) signal.now }
+    ensures { result ≡ choice (D.cost bank.now) (held tables.now) signal.now }
 {
     let mut best = None;
     for n in 0..tables.frame_count() {

@@ -36,11 +36,11 @@ impl<B: Domain> Draft<B> {
 
     // Puts the signal into the frame where the plan's weight grows least.
     pub fn enter(&mut self, signal: Signal) -> Result<(), PlanFault>
-        ensures says { told done result ≡ enter_says (count self.old.bank) (cost self.old.bank) (held self.old.tables) signal }
-        ensures holds { held self.new.tables ≡ entered (count self.old.bank) (cost self.old.bank) (held self.old.tables) signal }
+        ensures says { told done result ≡ enter_says (B.count self.old.bank) (B.cost self.old.bank) (held self.old.tables) signal }
+        ensures holds { held self.new.tables ≡ entered (B.count self.old.bank) (B.cost self.old.bank) (held self.old.tables) signal }
         ensures bank { self.new.bank ≡ self.old.bank }
         ensures packed { WellPacked (held self.new.tables) }
-        ensures lightest { OnOk result (Lightest (cost self.old.bank) (held self.old.tables) signal (held self.new.tables)) }
+        ensures lightest { OnOk result (Lightest (B.cost self.old.bank) (held self.old.tables) signal (held self.new.tables)) }
         ensures undone { OnOk result (withdrawn (held self.new.tables) signal.name ≡ held self.old.tables) }
     {
         let choice = ask(&self.bank, &self.tables, &signal)?;
@@ -76,7 +76,7 @@ impl<B: Domain> Draft<B> {
 
     // What all frames weigh together, in millionths.
     pub fn weight(&self) -> u64
-        ensures { result ≡ packing_weight (cost self.now.bank) (held self.now.tables) }
+        ensures { result ≡ packing_weight (B.cost self.now.bank) (held self.now.tables) }
     {
         plan_weight(&self.bank, &self.tables)
     }

@@ -44,7 +44,7 @@ pub(crate) fn ask<D: Domain>(
     tables: &Tables,
     signal: &Signal,
 ) -> Result<Choice, PlanFault>
-    ensures { Asked (count bank.now) (cost bank.now) (held tables.now) signal.now result }
+    ensures { Asked (D.count bank.now) (D.cost bank.now) (held tables.now) signal.now result }
 {
     check_figures(bank.count(), signal)?;
     if find(tables.entries(), signal.name).is_some() {

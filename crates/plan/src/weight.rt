@@ -8,7 +8,7 @@ use packing::tables::Tables;
 use weights::weigh::rows_weight;
 
 pub(crate) fn plan_weight<B: Domain>(bank: &B, tables: &Tables) -> u64
-    ensures { result ≡ packing_weight (cost bank.now) (held tables.now) }
+    ensures { result ≡ packing_weight (B.cost bank.now) (held tables.now) }
 {
     rows_weight(bank, tables.frame_rows())
 }

@@ -1,5 +1,6 @@
 // What a frame gains when another is left out, in any domain: it rests on the duties alone, through the bound.
 #![tactic(auto)]
+
 ghost use Rattle.std.specs.Prelude.{◌≡◌, slice_set};
 ghost use Rattle.domains.specs.Asked.{asked};
 ghost use Rattle.domains.specs.declared.place.Place.TheVariants.{Absent as Gone};
@@ -29,7 +30,7 @@ pub fn relief<D: Domain>(
     f: usize,
     i: usize,
 ) -> Option<u64>
-    ensures { Gains (asked (response domain.now k) rows.now places f) (asked (response domain.now k) rows.now (slice_set places i Gone) f) result }
+    ensures { Gains (asked (D.response domain.now k) rows.now places f) (asked (D.response domain.now k) rows.now (slice_set places i Gone) f) result }
 {
     let before = domain.answer(k, rows, &places, f)?;
     let without = left_out(places, i);

@@ -32,8 +32,8 @@ fn row_of(res: Result<Frame, PlanFault>) -> Result<Row, PlanFault>
 // One call on a draft.
 fn on_draft<B: Domain>(mut draft: Draft<B>, call: Call) -> (Plan<B>, Answer)
     ensures bank { plan_bank result.0 ≡ draft.bank }
-    ensures book { plan_book result.0 ≡ (on_draft (bank_of (count draft.bank) (cost draft.bank) (response draft.bank)) (held draft.tables) call).after }
-    ensures says { told result.1 ≡ (on_draft (bank_of (count draft.bank) (cost draft.bank) (response draft.bank)) (held draft.tables) call).reply }
+    ensures book { plan_book result.0 ≡ (on_draft (bank_of (B.count draft.bank) (B.cost draft.bank) (B.response draft.bank)) (held draft.tables) call).after }
+    ensures says { told result.1 ≡ (on_draft (bank_of (B.count draft.bank) (B.cost draft.bank) (B.response draft.bank)) (held draft.tables) call).reply }
 {
     if let Call::Close = call {
         return (Plan::Shut(draft.close()), Answer::Moved);
@@ -59,8 +59,8 @@ fn on_draft<B: Domain>(mut draft: Draft<B>, call: Call) -> (Plan<B>, Answer)
 // One call on a closed plan.
 fn on_closed<B: Domain>(mut closed: Closed<B>, call: Call) -> (Plan<B>, Answer)
     ensures bank { plan_bank result.0 ≡ closed.bank }
-    ensures book { plan_book result.0 ≡ (on_closed (bank_of (count closed.bank) (cost closed.bank) (response closed.bank)) (held closed.tables) (stands_of (held closed.tables).frames closed.standing) call).after }
-    ensures says { told result.1 ≡ (on_closed (bank_of (count closed.bank) (cost closed.bank) (response closed.bank)) (held closed.tables) (stands_of (held closed.tables).frames closed.standing) call).reply }
+    ensures book { plan_book result.0 ≡ (on_closed (bank_of (B.count closed.bank) (B.cost closed.bank) (B.response closed.bank)) (held closed.tables) (stands_of (held closed.tables).frames closed.standing) call).after }
+    ensures says { told result.1 ≡ (on_closed (bank_of (B.count closed.bank) (B.cost closed.bank) (B.response closed.bank)) (held closed.tables) (stands_of (held closed.tables).frames closed.standing) call).reply }
 {
     if let Call::Reopen = call {
         return (Plan::Open(closed.reopen()), Answer::Moved);
@@ -83,8 +83,8 @@ fn on_closed<B: Domain>(mut closed: Closed<B>, call: Call) -> (Plan<B>, Answer)
 // One call on a plan in either state.
 pub fn apply<B: Domain>(plan: Plan<B>, call: Call) -> (Plan<B>, Answer)
     ensures bank { plan_bank result.0 ≡ plan_bank plan }
-    ensures book { plan_book result.0 ≡ (step (bank_of (count (plan_bank plan)) (cost (plan_bank plan)) (response (plan_bank plan))) (plan_book plan) call).after }
-    ensures says { told result.1 ≡ (step (bank_of (count (plan_bank plan)) (cost (plan_bank plan)) (response (plan_bank plan))) (plan_book plan) call).reply }
+    ensures book { plan_book result.0 ≡ (step (bank_of (B.count (plan_bank plan)) (B.cost (plan_bank plan)) (B.response (plan_bank plan))) (plan_book plan) call).after }
+    ensures says { told result.1 ≡ (step (bank_of (B.count (plan_bank plan)) (B.cost (plan_bank plan)) (B.response (plan_bank plan))) (plan_book plan) call).reply }
 {
     match plan {
         Plan::Open(draft) => on_draft(draft, call),
@@ -95,7 +95,7 @@ pub fn apply<B: Domain>(plan: Plan<B>, call: Call) -> (Plan<B>, Answer)
 // Runs the calls on a plan just created over the bank, and writes the answer of each. Where there is not room for all
 // answers, nothing is called or written, and the bank is given back.
 pub fn replay<B: Domain>(bank: B, calls: &[Call], answers: &mut [Answer]) -> Result<Plan<B>, B>
-    ensures { Ran (bank_of (count bank) (cost bank) (response bank)) bank calls.now answers.old answers.new result }
+    ensures { Ran (bank_of (B.count bank) (B.cost bank) (B.response bank)) bank calls.now answers.old answers.new result }
 {
     if answers.len() < calls.len() {
         return Err(bank);

@@ -34,7 +34,7 @@ fn in_time_in<D: Domain>(bank: &D, rows: &[Row], places: &[Place], f: usize, k: 
     requires long { length places.now ≡ length rows.now }
     requires few { length rows.now ≤ 96 }
     requires within { f < length rows.now }
-    ensures { result ≡ in_domain (response bank.now) k (row_at rows.now f) (map (row_at rows.now) (without f (above places.now))) (map (row_at rows.now) (without f (below places.now))) }
+    ensures { result ≡ in_domain (D.response bank.now) k (row_at rows.now f) (map (row_at rows.now) (without f (above places.now))) (map (row_at rows.now) (without f (below places.now))) }
 {
     if !carries(k, rows[f].set) {
         return true;
@@ -49,7 +49,7 @@ pub fn in_time_everywhere<D: Domain>(bank: &D, rows: &[Row], places: &[Place], f
     requires long { length places.now ≡ length rows.now }
     requires few { length rows.now ≤ 96 }
     requires within { f < length rows.now }
-    ensures { result ≡ tested (everywhere (response bank.now)) rows.now places.now f }
+    ensures { result ≡ tested (everywhere (D.response bank.now)) rows.now places.now f }
 {
     for k in 0..DOMAINS {
         if !in_time_in(bank, rows, places, f, k) {

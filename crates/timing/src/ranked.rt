@@ -33,7 +33,7 @@ fn ranked(rows: &[Row], k: usize, f: usize) -> [Place; 96]
 
 // The response time in domain k of frame f, with the rows in order of priority; none where the domain does not carry it.
 pub fn response_at<D: Domain>(bank: &D, k: usize, rows: &[Row], f: usize) -> Option<u64>
-    ensures { result ≡ response_at (response bank.now) k rows.now f }
+    ensures { result ≡ response_at (D.response bank.now) k rows.now f }
 {
     if rows.len() > 96 || f >= rows.len() {
         return None;

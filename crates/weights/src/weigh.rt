@@ -17,7 +17,7 @@ const DOMAINS: usize = 4;
 
 // What the frame weighs in domain k; 0 where the domain does not carry it.
 pub fn weight_in<D: Domain>(bank: &D, k: usize, frame: &Frame) -> u64
-    ensures is { result ≡ weight_in (cost bank.now) k (row_of frame.now) }
+    ensures is { result ≡ weight_in (D.cost bank.now) k (row_of frame.now) }
     ensures low { result ≤ 20000000 }
 {
     let row = frame.row();
@@ -37,7 +37,7 @@ pub fn weight_in<D: Domain>(bank: &D, k: usize, frame: &Frame) -> u64
 
 // What the frame weighs in all domains of its set.
 pub fn frame_weight<D: Domain>(bank: &D, frame: &Frame) -> u64
-    ensures is { result ≡ row_weight (cost bank.now) (row_of frame.now) }
+    ensures is { result ≡ row_weight (D.cost bank.now) (row_of frame.now) }
     ensures low { result ≤ 80000000 }
 {
     let mut sum: u64 = 0;
@@ -50,7 +50,7 @@ pub fn frame_weight<D: Domain>(bank: &D, frame: &Frame) -> u64
 // What the frame of a row within the limits weighs.
 pub fn row_weight<D: Domain>(bank: &D, row: &Row) -> u64
     requires { Lawful row.now }
-    ensures is { result ≡ row_weight (cost bank.now) row.now }
+    ensures is { result ≡ row_weight (D.cost bank.now) row.now }
     ensures low { result ≤ 80000000 }
 {
     match Frame::of(row) {
@@ -63,7 +63,7 @@ pub fn row_weight<D: Domain>(bank: &D, row: &Row) -> u64
 pub fn rows_weight<D: Domain>(bank: &D, rows: &[Row]) -> u64
     requires lawful { All Lawful rows.now }
     requires few { length rows.now ≤ 96 }
-    ensures { result ≡ rows_weight (cost bank.now) rows.now }
+    ensures { result ≡ rows_weight (D.cost bank.now) rows.now }
 {
     let mut sum: u64 = 0;
     for row in rows {

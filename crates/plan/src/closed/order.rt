@@ -26,7 +26,7 @@ pub struct Counted {
 }
 
 fn solve<B: Domain>(bank: &B, tables: &Tables) -> Result<Placement, Conflict>
-    ensures { Answered (everywhere (response bank.now)) (rows (held tables.now)) result }
+    ensures { Answered (everywhere (B.response bank.now)) (rows (held tables.now)) result }
 {
     find_order(bank, tables.frame_rows())
 }
@@ -34,12 +34,12 @@ fn solve<B: Domain>(bank: &B, tables: &Tables) -> Result<Placement, Conflict>
 impl<B: Domain> Closed<B> {
     // Orders the frames, or refuses and leaves the conflict.
     pub fn order(&mut self) -> Result<Counted, PlanFault>
-        ensures says { told (λ c. c.frames ∷ c.examinations ∷ []) result ≡ order_says (bank_of (count self.old.bank) (cost self.old.bank) (response self.old.bank)) (held self.old.tables) }
-        ensures stands { stands_of (held self.new.tables).frames self.new.standing ≡ ordered (bank_of (count self.old.bank) (cost self.old.bank) (response self.old.bank)) (held self.old.tables) }
+        ensures says { told (λ c. c.frames ∷ c.examinations ∷ []) result ≡ order_says (bank_of (B.count self.old.bank) (B.cost self.old.bank) (B.response self.old.bank)) (held self.old.tables) }
+        ensures stands { stands_of (held self.new.tables).frames self.new.standing ≡ ordered (bank_of (B.count self.old.bank) (B.cost self.old.bank) (B.response self.old.bank)) (held self.old.tables) }
         ensures holds { held self.new.tables ≡ held self.old.tables }
         ensures bank { self.new.bank ≡ self.old.bank }
-        ensures refused { Iff (is_ok result ≡ false) (HasOrder (bank_of (count self.old.bank) (cost self.old.bank) (response self.old.bank)) (rows (held self.old.tables)) → ⊥) }
-        ensures upheld { Upheld (bank_of (count self.old.bank) (cost self.old.bank) (response self.old.bank)) (held self.old.tables) (stands_of (held self.new.tables).frames self.new.standing) }
+        ensures refused { Iff (is_ok result ≡ false) (HasOrder (bank_of (B.count self.old.bank) (B.cost self.old.bank) (B.response self.old.bank)) (rows (held self.old.tables)) → ⊥) }
+        ensures upheld { Upheld (bank_of (B.count self.old.bank) (B.cost self.old.bank) (B.response self.old.bank)) (held self.old.tables) (stands_of (held self.new.tables).frames self.new.standing) }
     {
         match solve(&self.bank, &self.tables) {
             Ok(placement) => {

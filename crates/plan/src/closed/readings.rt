@@ -46,7 +46,7 @@ fn respond<B: Domain>(
     n: usize,
     k: usize,
 ) -> Result<u64, PlanFault>
-    ensures { told (λ t. t ∷ []) result ≡ response_says (bank_of (count bank.now) (cost bank.now) (response bank.now)) (held tables.now) (stands_of (held tables.now).frames standing.now) n k }
+    ensures { told (λ t. t ∷ []) result ≡ response_says (bank_of (B.count bank.now) (B.cost bank.now) (B.response bank.now)) (held tables.now) (stands_of (held tables.now).frames standing.now) n k }
 {
     let frames = tables.frame_count();
     if n >= frames {
@@ -118,7 +118,7 @@ impl<B: Domain> Closed<B> {
 
     // How late frame n can be in domain k, in the order that stands.
     pub fn response(&self, n: usize, k: usize) -> Result<u64, PlanFault>
-        ensures { told (λ t. t ∷ []) result ≡ response_says (bank_of (count self.now.bank) (cost self.now.bank) (response self.now.bank)) (held self.now.tables) (stands_of (held self.now.tables).frames self.now.standing) n k }
+        ensures { told (λ t. t ∷ []) result ≡ response_says (bank_of (B.count self.now.bank) (B.cost self.now.bank) (B.response self.now.bank)) (held self.now.tables) (stands_of (held self.now.tables).frames self.now.standing) n k }
     {
         respond(&self.bank, &self.tables, &self.standing, n, k)
     }
@@ -144,7 +144,7 @@ impl<B: Domain> Closed<B> {
 
     // What all frames weigh together, in millionths.
     pub fn weight(&self) -> u64
-        ensures { result ≡ packing_weight (cost self.now.bank) (held self.now.tables) }
+        ensures { result ≡ packing_weight (B.cost self.now.bank) (held self.now.tables) }
     {
         plan_weight(&self.bank, &self.tables)
     }
