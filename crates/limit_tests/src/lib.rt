@@ -1,5 +1,6 @@
 // Runs of the code at the limits: records, figures of domains, and questions that have no answer.
 #![tactic(auto)]
+
 #[cfg(test)]
 mod buses;
 #[cfg(test)]

@@ -1,5 +1,6 @@
 // Says how late frames of small built-in lists can be: on a CAN FD bus, in a gateway processor and over a radio link.
 #![tactic(auto)]
+
 use anyhow::anyhow;
 use bus::bus::Bus;
 use domains::domain::Domain;

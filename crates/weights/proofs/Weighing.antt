@@ -1,12 +1,13 @@
 -- Bounds of costs and weights, and that a weight grows with the frame. Assumes nothing.
-use Rattle.std.proofs.Common.{◌≡◌, ℕ, zero, suc, ◌+◌, ◌<◌, ◌≤◌, true, false, cond, List, Option, sym, refl, ap, ◌∙◌, subst, ⊎_elim, arith}
+use Rattle.std.proofs.Common.{◌≡◌, ℕ, zero, suc, ◌+◌, ◌*◌, ◌<◌, ◌≤◌, true, false, cond, List, Option, sym, refl, ap, ◌∙◌, subst, ⊎_elim, arith}
 use Rattle.std.proofs.lemmas.Bool.{cases_lt, cond-true, cond-false, cond_both}
 use Rattle.frames.specs.declared.row.Row.{Row}
 use Rattle.timing.specs.Carried.{in_set, carried}
 use Rattle.frames.specs.Payloads.{payload}
 use Rattle.frames.proofs.Fitting.{payload_le, payload_mono}
-use Rattle.streams.specs.Demands.{weight}
-use Rattle.streams.proofs.Demanding.{weight_grows}
+use Rattle.streams.specs.declared.stream.Stream.{Stream}
+use Rattle.streams.specs.Demands.{weight, ceil}
+use Rattle.streams.proofs.Demanding.{weight_grows, ceil_le}
 use Rattle.domains.specs.Duties.{Duties}
 use Rattle.weights.specs.Weights.{weight_in, sum_below, row_weight}
 
@@ -29,6 +30,11 @@ module _ (cost : ℕ → ℕ → ℕ) (k : ℕ) (r f : Row) (e : r ≡ f) where
   unfolding weight_in
   weighed c h is =
       ap (λ n. weight (record { cost = n; period = r.period })) (is ∙ ap (λ x. cost k (payload x.fill)) (sym e)) ∙ sym (cond-true _ _ _ h) ∙ ap (weight_in cost k) e
+
+-- what costs nothing weighs nothing
+pub weightless : (s : Stream) → s.cost ≡ 0 → 1 ≤ s.period → weight s ≡ 0
+unfolding weight
+weightless s free long = omega (arith, ceil_le s.period (s.cost * 1000000) 0 long (omega arith))
 
 -- a frame that has no less in it, no later, and in no fewer domains
 pub record Fuller (r q : Row) : Type 0 where

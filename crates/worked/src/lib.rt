@@ -1,5 +1,6 @@
 // Figures worked by hand, as one list of equations about the definitions that the contracts cite.
 #![tactic(auto)]
+
 ghost use Rattle.worked.specs.Figures.{WorkedFigures, LaterInstance};
 
 pub fn worked_figures_hold()

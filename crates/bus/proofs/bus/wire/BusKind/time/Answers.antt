@@ -40,7 +40,7 @@ overflow_sub-time c = omega (arith, c.delay_of.ensures.begins)
 pub loop-q-preserved : goal.loop-q-preserved
 loop-q-preserved c =
     let time = (c.delay_of.result + c.args.own.cost) - c.loop-q.q * c.args.own.period in
-    let worst : c.if-time-worst.worst ≡ max c.loop-q.worst time = elim c.if-time-worst.branch [ then-time-worst w ↦ omega (arith, w.worst_is) | else-time-worst w ↦ omega (arith, w.worst_is) ] in
+    let worst : c.if-time-worst.worst ≡ max c.loop-q.worst time = elim c.if-time-worst.branch [ then-time-worst w ↦ omega (arith, w.worst-is) | else-time-worst w ↦ omega (arith, w.worst-is) ] in
     instances_more c.args.self.now.arbitration c.args.own c.args.above.now c.largest_cost-b.result c.requires.over c.loop-q.q c.delay_of.result c.delay_of.ensures.is c.loop-q.worst c.loop-q.known _ _ c.loop-q.invariant refl worst
 
 pub returns : goal.returns
