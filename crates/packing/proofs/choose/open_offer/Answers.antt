@@ -7,8 +7,8 @@ use Rattle.packing.proofs.Offers.{no_room, opens, lawful_with, room_past}
 use Rattle.packing.proofs.Sounds.{to_sound}
 use Rattle.packing.proofs.choose.open_offer.Goals as goal
 
-pub returns-then-n-ge-MAX-FRAMES : goal.returns-then-n-ge-MAX-FRAMES
-returns-then-n-ge-MAX-FRAMES g c =
+pub returns-then-n-ge-MAX_FRAMES : goal.returns-then-n-ge-MAX_FRAMES
+returns-then-n-ge-MAX_FRAMES g c =
     no_room _ (held c.args.tables.now) c.args.signal.now c.args.tables.now.frames (omega arith) (omega (arith, c.frame_count-n.ensures.is))
 
 pub row_with-requires : goal.row_with-requires
@@ -27,4 +27,4 @@ pub returns : goal.returns
 returns g c =
     let cost = g.D.Domain.cost c.args.bank.now in
     let p = held c.args.tables.now in
-    opens cost p c.args.signal.now c.frame_count-n.result (omega (arith, c.frame_count-n.ensures.is)) c.if-n-ge-MAX-FRAMES.false _ (c.row_weight.ensures.is ∙ ap (row_weight cost) c.row_with.ensures) ∙ ap (λ (n : ℕ). at_frame n (growth_at cost p c.args.signal.now n)) c.frame_count-n.ensures.is
+    opens cost p c.args.signal.now c.frame_count-n.result (omega (arith, c.frame_count-n.ensures.is)) c.if-n-ge-MAX_FRAMES.false _ (c.row_weight.ensures.is ∙ ap (row_weight cost) c.row_with.ensures) ∙ ap (λ (n : ℕ). at_frame n (growth_at cost p c.args.signal.now n)) c.frame_count-n.ensures.is

@@ -17,8 +17,8 @@ returns-then-is_some g c =
     let found = ap is_some (c.find.ensures ∙ ap (place_of c.args.signal.now.name 0) c.entries.ensures.is) in
     no_name _ _ (held c.args.tables.now) c.args.signal.now (ap (λ n. first_no (figure_questions n c.args.signal.now)) (sym c.count.ensures) ∙ sym c.in_ok-check_figures.ensures.is) (sym found ∙ sym c.if-is_some.ensures)
 
-pub returns-then-signal_count-ge-MAX-SIGNALS : goal.returns-then-signal_count-ge-MAX-SIGNALS
-returns-then-signal_count-ge-MAX-SIGNALS g c =
+pub returns-then-signal_count-ge-MAX_SIGNALS : goal.returns-then-signal_count-ge-MAX_SIGNALS
+returns-then-signal_count-ge-MAX_SIGNALS g c =
     let found = ap is_some (c.find.ensures ∙ ap (place_of c.args.signal.now.name 0) c.entries.ensures.is) in
     no_room _ _ (held c.args.tables.now) c.args.signal.now (ap (λ n. first_no (figure_questions n c.args.signal.now)) (sym c.count.ensures) ∙ sym c.in_ok-check_figures.ensures.is) (sym found ∙ sym c.if-is_some.ensures) (omega (arith, c.signal_count.ensures))
 

@@ -4,4 +4,4 @@ use Rattle.packing.proofs.tables.Tables.new.Goals as goal
 
 pub invariant_of-result : goal.invariant_of-result
 unfolding sound
-invariant_of-result c = (omega arith, (refl, (omega arith, (refl, (refl, tt)))))
+invariant_of-result c = record { few = omega arith; counted = refl; room = omega arith; ok = refl; kept = refl }

@@ -15,19 +15,14 @@ push-requires c = omega (arith, c.requires.few, c.args.self.now.counted)
 pub invariant_of-self : goal.invariant_of-self
 invariant_of-self c =
     let old = c.args.self.now in
-    let list = c.push.ensures.listed in (
-      omega (arith, c.requires.few, old.counted, c.push.ensures.count),
-      (
-        put_counted old c.args.signal c.args.n c.requires c.push.new.self _ list c.max-self.ensures c.push.ensures.count,
-        (
-          omega (arith, c.max-self.ensures, old.room, c.requires.room),
-          (
-            put_ok old c.args.signal c.args.n c.requires c.push.new.self _ list c.max-self.ensures,
-            (put_kept old c.args.signal c.args.n c.requires c.push.new.self _ list c.max-self.ensures _ c.row_with-row.ensures (omega arith), tt),
-          ),
-        ),
-      ),
-    )
+    let list = c.push.ensures.listed in
+    record {
+      few = omega (arith, c.requires.few, old.counted, c.push.ensures.count);
+      counted = put_counted old c.args.signal c.args.n c.requires c.push.new.self _ list c.max-self.ensures c.push.ensures.count;
+      room = omega (arith, c.max-self.ensures, old.room, c.requires.room);
+      ok = put_ok old c.args.signal c.args.n c.requires c.push.new.self _ list c.max-self.ensures;
+      kept = put_kept old c.args.signal c.args.n c.requires c.push.new.self _ list c.max-self.ensures _ c.row_with-row.ensures (omega arith);
+    }
 
 pub returns : goal.returns
 returns c =

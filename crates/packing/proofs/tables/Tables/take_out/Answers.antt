@@ -33,19 +33,14 @@ gather_all-requires c =
 pub invariant_of-self : goal.invariant_of-self
 invariant_of-self c =
     let e = c.remove-gone.ensures in
-    let s = out_sound c.args.self.now c.args.i c.requires c.remove-gone.new.self c.remove-gone.result e.is e.listed c.leave-self.new.self c.leave-self.result c.leave-self.ensures.is in (
-      omega (arith, c.leave-self.ensures.count, e.count, c.args.self.now.few),
-      (
-        out_counted c.args.self.now c.args.i c.requires c.remove-gone.new.self c.remove-gone.result e.is e.listed c.leave-self.new.self c.leave-self.result c.leave-self.ensures.is e.count c.leave-self.ensures.count,
-        (
-          s.room,
-          (
-            from_sound _ s,
-            (c.gather_all.ensures ∙ ap (λ es. rows_of es c.leave-self.result) c.used.ensures, tt),
-          ),
-        ),
-      ),
-    )
+    let s = out_sound c.args.self.now c.args.i c.requires c.remove-gone.new.self c.remove-gone.result e.is e.listed c.leave-self.new.self c.leave-self.result c.leave-self.ensures.is in
+    record {
+      few = omega (arith, c.leave-self.ensures.count, e.count, c.args.self.now.few);
+      counted = out_counted c.args.self.now c.args.i c.requires c.remove-gone.new.self c.remove-gone.result e.is e.listed c.leave-self.new.self c.leave-self.result c.leave-self.ensures.is e.count c.leave-self.ensures.count;
+      room = s.room;
+      ok = from_sound _ s;
+      kept = c.gather_all.ensures ∙ ap (λ es. rows_of es c.leave-self.result) c.used.ensures;
+    }
 
 pub returns : goal.returns
 returns c =
