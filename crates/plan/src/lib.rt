@@ -2,6 +2,7 @@
 // It knows packing, ordering and domains by their contracts, and no kind of domain. A draft cannot be ordered, and a
 // closed plan cannot be changed: they are types of their own.
 #![tactic(auto)]
+
 pub mod closed;
 pub mod draft;
 pub mod fault;

@@ -1,6 +1,7 @@
 // Runs of plans: at both sides of each limit, in the order of the questions, of the tie rules, from signals to identifiers
 // and to a conflict, and of lists of calls.
 #![tactic(auto)]
+
 #[cfg(test)]
 mod closings;
 #[cfg(test)]

@@ -1,5 +1,6 @@
 // Takes a small truck from its signals to identifiers and response times, and an overloaded one to its conflict.
 #![tactic(auto)]
+
 mod busy;
 mod calls;
 mod ordering;
