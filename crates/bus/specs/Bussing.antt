@@ -8,7 +8,6 @@ use Rattle.std.proofs.Math.Nat.{le_trans, add-mul}
 use Rattle.std.specs.List.{AllByRecursion as All}
 use Rattle.std.proofs.lemmas.Nat.{mul-le}
 use Rattle.std.proofs.lemmas.Bool.{cases_lt}
-use Rattle.shelf.specs.Folds.{most}
 use Rattle.shelf.specs.Largest.{largest}
 use Rattle.shelf.specs.Smallest.{Smallest}
 use Rattle.shelf.specs.Times.{NoLater, AtMost, or_zero}

@@ -1,12 +1,7 @@
 -- Two tests that agree on a list find the same. Assumes nothing.
-use Rattle.std.proofs.Common.{◌≡◌, ℕ, zero, suc, ◌+◌, ◌<◌, ◌≤◌, Bool, true, false, cond, not, eqb, List, [], ◌∷◌, length, get_or, set, Some, None, filter, Option, sym, refl, ap, ◌∙◌, subst, add-zero, arith}
-use lib.Seq.{set-get_or}
-use Rattle.std.specs.List.{AllByRecursion as All}
-use Rattle.std.proofs.ByRecursion.{All-weaker}
-use Rattle.shelf.specs.Picks.{Pick, Perm}
+use Rattle.std.proofs.Common.{◌≡◌, ℕ, Bool, List, [], ◌∷◌, refl}
+use Rattle.shelf.specs.Picks.{Pick}
 use Rattle.shelf.specs.Picks.Pick.{here, there}
-use Rattle.shelf.specs.Numbers.{chosen, without}
-use Rattle.shelf.proofs.Numbering.{chosen_from, without_away, without_here, without_there}
 use Rattle.ordering.specs.Orders.{found, examined}
 
 -- two tests that agree on the list

@@ -1,5 +1,5 @@
 -- What the public call owes, from what its parts give. Assumes nothing.
-use Rattle.std.proofs.Common.{◌≡◌, ℕ, ◌-◌, ◌≤◌, Bool, true, List, [], ◌∷◌, map, length, take, drop, replicate, Some, None, Option, sym, refl, ap, ◌∙◌, subst, arith, length-take}
+use Rattle.std.proofs.Common.{◌≡◌, ℕ, ◌-◌, ◌≤◌, Bool, true, List, [], length, take, drop, replicate, Some, None, Option, refl, ap, ◌∙◌, subst, arith, length-take}
 use native.Mathlib.Nat.{sub-zero}
 use lib.ListN.{length-replicate}
 use Rattle.timing.specs.Laws.{Laws}
@@ -10,7 +10,7 @@ use Rattle.domains.specs.Asked.{no_row}
 use Rattle.frames.specs.declared.row.Row.{Row}
 use Rattle.domains.specs.declared.place.Place.TheVariants.{Above}
 use Rattle.shelf.proofs.Numbering.{chosen_apart, length_numbers}
-use Rattle.ordering.specs.Orders.{HasOrder, Judged, Arranged, order_of, examinations_of, conflict_of}
+use Rattle.ordering.specs.Orders.{HasOrder, Judged, Arranged, conflict_of}
 use Rattle.ordering.specs.Answers.{Placed, Refused}
 use Rattle.ordering.specs.declared.conflicts.Conflict.{Conflict}
 use Rattle.ordering.proofs.Greedy.{examinations_most}

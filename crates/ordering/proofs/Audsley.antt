@@ -3,11 +3,11 @@ use Rattle.std.proofs.Common.{◌≡◌, Bool, true, List, [], ◌∷◌, ◌++�
 use mathlib.Core.List.{reverse_aux, reverse-reverse, head-eq_of_cons-eq, tail-eq_of_cons-eq, nil≢cons}
 use Rattle.shelf.specs.Picks.{Pick, Perm, Part}
 use Rattle.shelf.specs.Picks.Pick.{here, there}
-use Rattle.shelf.specs.Picks.Perm.{done, next}
+use Rattle.shelf.specs.Picks.Perm.{next}
 use Rattle.shelf.specs.Picks.Part.{whole, less}
 use Rattle.timing.specs.Laws.{Laws}
 use Rattle.ordering.specs.Orders.{Meets, HasOrder}
-use Rattle.shelf.proofs.Perms.{perm_refl, perm_sym, perm_trans, perm_picked, perm_cons, perm_swap, reversed, perm_middle, taken}
+use Rattle.shelf.proofs.Perms.{perm_trans, perm_picked, perm_cons, perm_swap, reversed, perm_middle, taken}
 
 -- zs from the last place up, over ls that have the places below
 abbrev pub Fits : {F : Type 0} → (F → List F → List F → Bool) → List F → List F → Type 0

@@ -1,18 +1,14 @@
 -- The theorems on rows. Assumes nothing.
-use Rattle.std.proofs.Common.{◌≡◌, ℕ, suc, ◌+◌, ◌*◌, ◌/◌, ◌<◌, ◌≤◌, Bool, true, false, cond, List, [], ◌∷◌, map, length, get_or, Some, None, Option, sym, refl, ap, ◌∙◌, subst, add-zero, arith}
-use mathlib.Core.List.{reverse_aux}
-use Rattle.std.specs.List.{AllByRecursion as All}
-use Rattle.std.proofs.ByRecursion.{All-weaker}
-use Rattle.shelf.specs.Picks.{Pick, Perm, Part}
+use Rattle.std.proofs.Common.{◌≡◌, ℕ, ◌+◌, Bool, true, List, [], map, length, get_or, Some, None, Option, sym, ap, subst, arith}
+use Rattle.shelf.specs.Picks.{Perm, Part}
 use Rattle.timing.specs.Laws.{Laws}
-use Rattle.shelf.specs.Numbers.{chosen, numbers}
+use Rattle.shelf.specs.Numbers.{numbers}
 use Rattle.timing.specs.Places.{by_number}
-use Rattle.shelf.specs.Apart.{Apart}
 use Rattle.shelf.proofs.Numbering.{chosen_apart, length_numbers, map_numbers}
-use Rattle.ordering.specs.Orders.{Meets, HasOrder, at_row, order_of, examinations_of, conflict_of, Judged, IsConflict, greedy}
+use Rattle.ordering.specs.Orders.{Meets, HasOrder, at_row, order_of, conflict_of, Judged, IsConflict}
 use Rattle.shelf.proofs.Perms.{perm_map, perm_trans, reversed}
-use Rattle.ordering.proofs.Audsley.{Fits, Ordered, has_order, from_order, ordered_part, meets_fits}
-use Rattle.ordering.proofs.Greedy.{Right, greedy_right, examinations_most}
+use Rattle.ordering.proofs.Audsley.{Ordered, has_order, from_order, ordered_part, meets_fits}
+use Rattle.ordering.proofs.Greedy.{Right, greedy_right}
 use Rattle.ordering.proofs.Deletion.{conflict_right, shrink_part}
 use Rattle.ordering.proofs.Records.{laws_by_number, ordered_to, ordered_back, fits_to, map_onto}
 

@@ -1,9 +1,9 @@
 -- What the deletion filter leaves. Assumes nothing.
-use Rattle.std.proofs.Common.{◌≡◌, ℕ, Bool, true, false, cond, not, eqb, ◌⊎◌, List, [], ◌∷◌, length, is_some, Some, None, filter, Option, sym, refl, ap, ◌∙◌, subst, inl, inr}
+use Rattle.std.proofs.Common.{◌≡◌, ℕ, Bool, true, false, cond, not, eqb, ◌⊎◌, List, [], ◌∷◌, length, is_some, Some, None, Option, sym, refl, ap, ◌∙◌, subst, inl, inr}
 use Rattle.std.proofs.lemmas.Bool.{eqb-false, not-true, true≢false, false≢true}
-use Rattle.shelf.specs.Picks.{Pick, Perm, Part}
+use Rattle.shelf.specs.Picks.{Pick, Part}
 use Rattle.shelf.specs.Picks.Pick.{here, there}
-use Rattle.shelf.specs.Picks.Part.{whole, less}
+use Rattle.shelf.specs.Picks.Part.{whole}
 use Rattle.timing.specs.Laws.{Laws}
 use Rattle.shelf.specs.Numbers.{without}
 use Rattle.shelf.specs.Apart.{Apart}

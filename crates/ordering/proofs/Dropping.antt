@@ -1,9 +1,8 @@
 -- The deletion filter in a table. Assumes nothing.
-use Rattle.std.proofs.Common.{◌≡◌, ℕ, zero, suc, ◌+◌, ◌-◌, ◌<◌, ◌≤◌, Bool, true, false, cond, ◌≢◌, List, [], ◌∷◌, length, get_or, take, drop, set, replicate, sym, refl, ap, ◌∙◌, subst, arith, length-set, length-take, get_or-set_other, get_or-set_same, drop-set-lt, set-set}
+use Rattle.std.proofs.Common.{◌≡◌, ℕ, zero, suc, ◌+◌, ◌-◌, ◌<◌, ◌≤◌, Bool, true, false, ◌≢◌, List, [], ◌∷◌, length, get_or, take, drop, set, replicate, sym, refl, ap, ◌∙◌, arith, length-set, length-take, get_or-set_other, get_or-set_same, drop-set-lt, set-set}
 use lib.Seq.{take-set-lt, set-get_or}
 use Rattle.std.proofs.lemmas.Bool.{false≢true}
 use Rattle.std.proofs.lemmas.List.{at_drop_all}
-use Rattle.shelf.specs.Picks.{Pick}
 use Rattle.shelf.specs.Numbers.{without, numbers, chosen}
 use Rattle.timing.specs.Places.{above, below, is_above, is_below}
 use Rattle.domains.specs.Asked.{no_row}

@@ -1,9 +1,8 @@
 -- The greedy choice finds an order where there is one. Assumes nothing.
-use Rattle.std.proofs.Common.{◌≡◌, ℕ, zero, suc, ◌+◌, ◌*◌, ◌/◌, ◌<◌, ◌≤◌, Bool, true, false, cond, not, eqb, List, [], ◌∷◌, ◌++◌, length, Some, None, filter, Option, sym, refl, ap, ◌∙◌, subst, suc-mul, mul-suc, mul-add, arith}
+use Rattle.std.proofs.Common.{◌≡◌, ℕ, zero, suc, ◌+◌, ◌*◌, ◌/◌, ◌<◌, ◌≤◌, Bool, true, false, cond, not, eqb, List, [], ◌∷◌, length, Some, None, Option, sym, refl, ap, ◌∙◌, subst, suc-mul, mul-suc, mul-add, arith}
 use mathlib.Core.List.{reverse_aux}
-use Rattle.std.specs.List.{AllByRecursion as All}
-use Rattle.std.proofs.lemmas.Bool.{eqb-true, eqb-false, eq-eqb, ne_eqb, both_ways}
-use Rattle.shelf.specs.Picks.{Pick, Perm, Part}
+use Rattle.std.proofs.lemmas.Bool.{both_ways}
+use Rattle.shelf.specs.Picks.{Pick, Perm}
 use Rattle.shelf.specs.Picks.Pick.{here, there}
 use Rattle.shelf.specs.Picks.Perm.{done, next}
 use Rattle.timing.specs.Laws.{Laws}
@@ -13,7 +12,7 @@ use Rattle.shelf.proofs.Options.{some_none}
 use Rattle.shelf.proofs.Numbering.{pick_is, apart_kept}
 use Rattle.shelf.proofs.Perms.{pick_length}
 use Rattle.ordering.specs.Orders.{found, examined, at_place, greedy, examinations}
-use Rattle.ordering.proofs.Audsley.{Fits, Ordered, placed, place}
+use Rattle.ordering.proofs.Audsley.{Fits, Ordered, placed}
 
 found_yes : (p : ℕ → Bool) (y : ℕ) (ys : List ℕ) → p y ≡ true → found p (y ∷ ys) ≡ Some y
 found_yes p y ys h = simp h

@@ -1,7 +1,6 @@
 -- From numbers to records. Assumes nothing.
-use Rattle.std.proofs.Common.{◌≡◌, ℕ, Bool, true, List, [], ◌∷◌, map, sym, refl, ap, ◌∙◌, subst}
+use Rattle.std.proofs.Common.{◌≡◌, ℕ, Bool, List, [], ◌∷◌, map, refl, subst}
 use mathlib.Core.List.{reverse_aux}
-use Rattle.shelf.specs.Picks.{Pick, Perm, Part}
 use Rattle.timing.specs.Laws.{Laws}
 use Rattle.timing.specs.Places.{by_number}
 use Rattle.shelf.proofs.Perms.{perm_map, perm_back}

@@ -1,5 +1,5 @@
 -- What the public call answers. Assumes nothing.
-use Rattle.std.specs.Prelude.{◌≡◌, ℕ, ◌+◌, ◌*◌, ◌/◌, ◌≤◌, Bool, List, map, length, take, drop, replicate, Some, None, Ok, Err, Result}
+use Rattle.std.specs.Prelude.{◌≡◌, ◌+◌, ◌*◌, ◌/◌, ◌≤◌, Bool, List, map, length, take, drop, replicate, Some, None, Ok, Err, Result}
 use Rattle.shelf.specs.Picks.{Perm}
 use Rattle.shelf.specs.Numbers.{numbers}
 use Rattle.timing.specs.Places.{above, row_at}

@@ -1,15 +1,13 @@
 -- A packing stays sound where a signal is taken out. Assumes nothing.
-use Rattle.std.proofs.Common.{◌≡◌, ℕ, suc, ◌+◌, ◌-◌, ◌<◌, ◌≤◌, Bool, true, false, cond, List, [], ◌∷◌, ◌++◌, map, length, get_or, take, drop, sym, ap, ◌∙◌, subst, ap₂, ⊎_elim, arith}
+use Rattle.std.proofs.Common.{◌≡◌, ℕ, suc, ◌-◌, ◌<◌, ◌≤◌, true, false, List, [], ◌∷◌, ◌++◌, map, length, get_or, take, drop, sym, ap, ◌∙◌, subst, ap₂, ⊎_elim, arith}
 use Rattle.std.specs.List.{remove, AllByRecursion as All}
 use Rattle.std.proofs.lemmas.List.{length-map, map-append, take-map, drop-map}
 use Rattle.std.proofs.lemmas.List.Edits.{length-remove}
 use Rattle.std.proofs.ByRecursion.{All-weaker, All-append, All-take, All-drop, All-get_or, All-map}
 use Rattle.std.proofs.lemmas.Bool.{cases_eq, cond_both}
-use Rattle.frames.specs.declared.row.Row.{Row}
 use Rattle.frames.specs.Limits.{Lawful}
 use Rattle.shelf.specs.Apart.{Apart}
 use Rattle.shelf.proofs.Aparts.{apart_removed}
-use Rattle.signals.specs.declared.signal.Signal.{Signal}
 use Rattle.signals.specs.declared.signal.Entry.{Entry}
 use Rattle.signals.specs.Limits.{LawfulSignal}
 use Rattle.signals.specs.Names.{names, no_entry}
@@ -17,7 +15,7 @@ use Rattle.signals.specs.Riders.{riders, any_in}
 use Rattle.signals.specs.Rows.{row_by}
 use Rattle.signals.proofs.Riding.{rider, no_rider, riders_all, riders_some, riders_split, riders_removed, riders_removed_other, any_own, none_in}
 use Rattle.signals.proofs.Rowing.{fill_append, fill_cons, row_lawful, row_sender}
-use Rattle.packing.specs.Packings.{Packing, packed, row, lower, lowered, closed_up, taken_out}
+use Rattle.packing.specs.Packings.{Packing, packed, row, lower, lowered, taken_out}
 use Rattle.packing.proofs.Lowering.{raised, raised_lowered, raised_other, raised_below, lowered_below, riders_lowered, names_lowered}
 use Rattle.packing.proofs.Sounds.{Sound, Fair}
 

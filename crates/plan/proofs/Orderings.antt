@@ -1,5 +1,5 @@
 -- What order answers and leaves, by what the search found. Assumes nothing.
-use Rattle.std.proofs.Common.{◌≡◌, ℕ, [], ◌∷◌, length, take, Some, None, sym, refl, ap, ◌∙◌, ap₂}
+use Rattle.std.proofs.Common.{◌≡◌, [], ◌∷◌, length, take, Some, None, sym, ap, ◌∙◌, ap₂}
 use Rattle.packing.specs.Packings.{Packing, rows}
 use Rattle.timing.specs.Places.{above}
 use Rattle.ordering.specs.Answers.{Placed, Refused}

@@ -1,5 +1,5 @@
 -- What order leaves standing is right. Assumes nothing.
-use Rattle.std.proofs.Common.{◌≡◌, ℕ, suc, ◌+◌, ◌<◌, ◌≤◌, Bool, true, false, cond, List, [], ◌∷◌, ◌++◌, map, length, get_or, Some, None, Option, sym, refl, ap, ◌∙◌, subst, ap₂, arith}
+use Rattle.std.proofs.Common.{◌≡◌, ℕ, suc, ◌+◌, ◌<◌, ◌≤◌, true, List, [], ◌∷◌, ◌++◌, map, length, Some, None, Option, sym, refl, ap, ◌∙◌, subst, ap₂, arith}
 use Rattle.std.specs.List.{AllByRecursion as All}
 use Rattle.std.proofs.lemmas.List.FromFn.{get_or-map-range_with_len}
 use Rattle.std.proofs.ByRecursion.{All-weaker}
@@ -22,13 +22,13 @@ use Rattle.timing.proofs.Ranking.{response_between}
 use Rattle.ordering.specs.Orders.{Judged}
 use Rattle.ordering.proofs.Claims.{order_right, conflict_is, judged_some}
 use Rattle.plan.specs.Banks.{Bank, in_time}
-use Rattle.plan.specs.Closes.{picked_order, standing_after, ordered, identifier_at, identifier_says, heard, response_of, response_says}
+use Rattle.plan.specs.Closes.{picked_order, standing_after, ordered, identifier_at, identifier_says, heard, response_of}
 use Rattle.plan.specs.Questions.{first_no, response_questions}
 use Rattle.plan.specs.Said.{unless_refused}
 use Rattle.plan.specs.Said.Said.{gives}
 use Rattle.plan.specs.Stands.{place_in}
 use Rattle.plan.specs.Stands.Stands.{order}
-use Rattle.plan.specs.Subject.{InTime, MeetsAll, HasOrder, rows_at, Heard, OrderStands, ConflictStands, Upheld}
+use Rattle.plan.specs.Subject.{InTime, MeetsAll, HasOrder, rows_at, Heard, Upheld}
 use Rattle.plan.proofs.Readings.{rows_long}
 use Rattle.plan.proofs.Wording.{to_meets, to_order, from_order, greedy_picked, shrink_filtered}
 

@@ -10,7 +10,6 @@ use Rattle.timing.specs.Everywhere.{response_in}
 use Rattle.timing.specs.Places.{row_at}
 use Rattle.plan.specs.Banks.{Bank}
 use Rattle.plan.specs.Closes.{identifier_at, identifier_says, response_says}
-use Rattle.plan.specs.Said.{Said}
 use Rattle.plan.specs.Said.Said.{gives}
 use Rattle.plan.specs.Stands.{Stands}
 use Rattle.plan.specs.Stands.Stands.{nothing, order, conflict}

@@ -1,6 +1,5 @@
 -- The promise. Assumes nothing.
-use Rattle.std.proofs.Common.{◌≡◌, ℕ, ◌+◌, ◌^◌, ◌<◌, ◌≤◌, Bool, true, false, cond, not, ◌&&◌, leb, List, [], ◌∷◌, ◌++◌, map, length, get_or, take, is_some, Some, None, Option, sym, refl, ap, ◌∙◌, subst, arith, pow_mono}
-use Rattle.std.specs.List.{AllByRecursion as All}
+use Rattle.std.proofs.Common.{◌≡◌, ℕ, ◌^◌, ◌≤◌, Bool, true, false, cond, ◌&&◌, leb, List, [], ◌∷◌, ◌++◌, length, get_or, take, is_some, Some, None, Option, sym, refl, ap, ◌∙◌, subst, arith, pow_mono}
 use Rattle.std.proofs.lemmas.Bool.{and_parts, leb-true, ltb-true, not-true, false≢true}
 use Rattle.domains.specs.Faults.{Refusal}
 use Rattle.shelf.specs.Picks.{Among}
@@ -10,8 +9,8 @@ use Rattle.signals.specs.Names.{place_of}
 use Rattle.signals.proofs.Finding.{not_found, found_within}
 use Rattle.packing.specs.declared.choice.Choice.{Choice}
 use Rattle.packing.specs.Choices.{choice}
-use Rattle.packing.specs.Laws.{Carries, Placeable, Lightest}
-use Rattle.packing.specs.Packings.{Packing, packed, rows, placed, withdrawn, found_out}
+use Rattle.packing.specs.Laws.{Placeable, Lightest}
+use Rattle.packing.specs.Packings.{Packing, rows, withdrawn, found_out}
 use Rattle.packing.proofs.Offers.{choice_placeable}
 use Rattle.packing.proofs.Placing.{placed_sound}
 use Rattle.packing.proofs.Sounds.{Sound}
@@ -22,21 +21,21 @@ use Rattle.timing.specs.Laws.{Laws}
 use Rattle.plan.specs.declared.fault.PlanFault.{PlanFault}
 use Rattle.plan.specs.declared.fault.PlanFault.TheVariants.{NoOrder}
 use Rattle.plan.specs.Banks.{Bank, in_time}
-use Rattle.plan.specs.Closes.{picked_order, left_conflict, order_answers, order_says}
+use Rattle.plan.specs.Closes.{picked_order, left_conflict, order_answers}
 use Rattle.plan.specs.Drafts.{chosen, unless, entered, enter_says, withdraw_says}
 use Rattle.plan.specs.Faults.{plan_told}
-use Rattle.plan.specs.Questions.{Questions, first_no, enter_questions, name_questions}
-use Rattle.plan.specs.Said.{Said, unless_refused}
+use Rattle.plan.specs.Questions.{Questions, first_no, enter_questions}
+use Rattle.plan.specs.Said.{unless_refused}
 use Rattle.plan.specs.Said.Said.{gives, refuses}
 use Rattle.plan.specs.Stands.{Stands}
-use Rattle.plan.specs.Stands.Stands.{nothing, order, conflict}
-use Rattle.plan.specs.Subject.{Iff, HasOrder, OrderStands, Upheld}
+use Rattle.plan.specs.Stands.Stands.{nothing}
+use Rattle.plan.specs.Subject.{Iff, HasOrder, Upheld}
 use Rattle.plan.proofs.Asking.{known, unknown, withdrawn_by}
 use Rattle.plan.proofs.Upholding.{has_order, no_order, ordered_upheld}
 use Rattle.runs.specs.declared.call.Call.{Call}
 use Rattle.runs.specs.declared.call.Call.TheVariants.{Enter, Withdraw, Close, Reopen, Order, FrameOf, Record, Identifier, Response, Member, SignalCount, FrameCount, Weight}
 use Rattle.runs.specs.Books.{Book, new, on, step, run, replies}
-use Rattle.runs.specs.Lives.{after_call, lives, Reaches}
+use Rattle.runs.specs.Lives.{after_call, lives}
 use Rattle.runs.specs.Promise.{Refuses, Moment, Promise}
 use Rattle.runs.specs.Replies.{Reply, of_change, of_order}
 use Rattle.runs.specs.Replies.Reply.{not_allowed}

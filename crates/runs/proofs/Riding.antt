@@ -1,9 +1,8 @@
 -- Which frame a signal rides in, and when it arrives. Assumes nothing.
-use Rattle.std.proofs.Common.{◌≡◌, ℕ, ◌+◌, ◌<◌, ◌≤◌, true, List, [], ◌∷◌, ◌++◌, length, sym, refl, ap, ◌∙◌, subst, ⊎_elim, le_trans, arith}
-use Rattle.std.specs.List.{AllByRecursion as All}
+use Rattle.std.proofs.Common.{◌≡◌, ℕ, ◌+◌, ◌≤◌, true, List, ◌∷◌, sym, refl, ap, ◌∙◌, subst, ⊎_elim, le_trans, arith}
 use Rattle.timing.specs.Carried.{in_set, carried}
 use Rattle.shelf.specs.Numbers.{numbers}
-use Rattle.shelf.specs.Picks.{Pick, Perm, Among}
+use Rattle.shelf.specs.Picks.{Pick, Among}
 use Rattle.shelf.specs.Picks.Pick.{here, there}
 use Rattle.shelf.proofs.Numbering.{number_in}
 use Rattle.shelf.proofs.Perms.{pick_map, pick_back, pick_split, all_pick, taken}
@@ -14,7 +13,7 @@ use Rattle.signals.proofs.Riding.{rider, no_rider}
 use Rattle.packing.specs.Laws.{Carries, WellPacked}
 use Rattle.packing.specs.Packings.{Packing, row, rows}
 use Rattle.plan.specs.Banks.{Bank}
-use Rattle.plan.specs.Subject.{Heard, OrderStands}
+use Rattle.plan.specs.Subject.{OrderStands}
 use Rattle.plan.proofs.Readings.{rows_long}
 use Rattle.runs.specs.Lives.{Rides, Reaches}
 use Rattle.runs.proofs.Living.{signals_of}

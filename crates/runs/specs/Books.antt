@@ -1,5 +1,5 @@
 -- The book of a plan: what each call does to it, and what it replies. Assumes nothing.
-use Rattle.std.specs.Prelude.{ℕ, Bool, true, false, List, [], ◌∷◌, length}
+use Rattle.std.specs.Prelude.{Bool, true, false, List, [], ◌∷◌, length}
 use Rattle.packing.specs.Packings.{Packing, packed, packing_weight, withdrawn}
 use Rattle.plan.specs.Banks.{Bank}
 use Rattle.plan.specs.Closes.{ordered, order_says, frame_says, record_says, identifier_says, response_says, member_says}

@@ -1,5 +1,5 @@
 -- Lists in which nothing occurs twice: one more, and one out. Assumes nothing.
-use Rattle.std.proofs.Common.{◌≡◌, ℕ, zero, suc, true, false, not, eqb, List, [], ◌∷◌, ◌++◌, take, drop, Decides, sym, refl}
+use Rattle.std.proofs.Common.{◌≡◌, ℕ, zero, suc, not, eqb, List, [], ◌∷◌, ◌++◌, take, drop, Decides, sym, refl}
 use Rattle.std.specs.List.{remove, AllByRecursion as All}
 use Rattle.std.proofs.ByRecursion.{All-push, All-append, All-take, All-drop}
 use Rattle.std.proofs.lemmas.Bool.{and_parts, and_from, not-true, not_from_false, eqb-false, ne_eqb}

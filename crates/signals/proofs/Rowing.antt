@@ -1,7 +1,7 @@
 -- The row that some signals give: within the limits, and in words. Assumes nothing.
-use Rattle.std.proofs.Common.{◌≡◌, ℕ, suc, ◌+◌, ◌/◌, ◌%◌, ◌^◌, ◌<◌, ◌≤◌, min, max, Bool, true, false, cond, eqb, ◌⊎◌, List, [], ◌∷◌, ◌++◌, length, get_or, take, drop, Decides, fold, sum_by, sym, refl, ap, ◌∙◌, subst, ap₂, inl, inr, ⊎_elim, arith}
+use Rattle.std.proofs.Common.{◌≡◌, ℕ, suc, ◌+◌, ◌/◌, ◌%◌, ◌^◌, ◌<◌, ◌≤◌, true, ◌⊎◌, List, [], ◌∷◌, ◌++◌, length, get_or, take, drop, Decides, fold, sym, refl, ap, ◌∙◌, subst, inl, inr, ⊎_elim, arith}
 use native.Mathlib.Nat.{zero-div}
-use lib.Bits.{bit_or, bit_and, or_step, or_add_and, or_lt, or_comm}
+use lib.Bits.{bit_or, or_step, or_add_and, or_lt, or_comm}
 use Rattle.std.specs.List.{AllByRecursion as All}
 use Rattle.std.proofs.lemmas.Nat.{or_shr, and_le_l}
 use Rattle.std.proofs.ByRecursion.{All-weaker}
@@ -11,7 +11,6 @@ use Rattle.std.proofs.lemmas.Bool.Decides.{nat_tests}
 use Rattle.frames.specs.declared.row.Row.{Row}
 use Rattle.timing.specs.Carried.{in_set}
 use Rattle.frames.specs.Limits.{Lawful}
-use Rattle.shelf.specs.Folds.{least, Least}
 use Rattle.shelf.specs.Picks.{Pick}
 use Rattle.shelf.specs.Picks.Pick.{here, there}
 use Rattle.shelf.proofs.Folds.{least_push, least_le, le_least, least_below, least_is}

@@ -1,5 +1,5 @@
 -- The limits of a signal. Assumes nothing.
-use Rattle.std.specs.Prelude.{ℕ, ◌≤◌, Bool, ◌&&◌, nat_le}
+use Rattle.std.specs.Prelude.{◌≤◌, Bool, ◌&&◌, nat_le}
 use Rattle.frames.specs.Limits.{LawfulFill, LawfulPeriod, LawfulDeadline, LawfulSet, within}
 use Rattle.signals.specs.declared.signal.Signal.{Signal}
 

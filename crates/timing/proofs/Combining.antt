@@ -1,12 +1,11 @@
 -- The duties of the domains give the laws of being in time. Assumes nothing.
-use Rattle.std.proofs.Common.{◌≡◌, ℕ, ◌≤◌, Bool, true, false, cond, not, ◌&&◌, ◌||◌, List, [], ◌∷◌, Some, None, filter, Option, sym, refl, ap, ◌∙◌, subst, arith}
+use Rattle.std.proofs.Common.{◌≡◌, ℕ, Bool, true, false, cond, not, ◌&&◌, ◌||◌, List, [], ◌∷◌, Some, None, filter, Option, refl, ap, arith}
 use Rattle.std.proofs.lemmas.Bool.{leb-true, le-leb, and_parts, and_from, false≢true}
 use Rattle.frames.specs.declared.row.Row.{Row}
 use Rattle.timing.specs.Carried.{carried}
 use Rattle.shelf.specs.Folds.{every}
 use Rattle.shelf.specs.Times.{NoLater}
 use Rattle.shelf.proofs.Parts.{perm_kept}
-use Rattle.domains.specs.Asked.{reply}
 use Rattle.domains.specs.Duties.{Duties}
 use Rattle.domains.specs.Replies.{ReplyLaws}
 use Rattle.domains.proofs.Replying.{reply_laws}

@@ -1,5 +1,5 @@
 -- The table that one domain is told, and what it is asked by it. Assumes nothing.
-use Rattle.std.proofs.Common.{◌≡◌, ℕ, zero, suc, ◌+◌, ◌-◌, ◌<◌, ◌≤◌, Bool, true, false, cond, not, ◌&&◌, eqb, ◌≢◌, ◌⊎◌, List, [], ◌∷◌, map, length, get_or, take, set, replicate, Some, None, filter, Option, sym, refl, ap, ◌∙◌, subst, ap₂, inl, inr, add-zero, arith, length-set, length-take, get_or-set_other, get_or-take, get_or-set_same}
+use Rattle.std.proofs.Common.{◌≡◌, ℕ, zero, suc, ◌+◌, ◌-◌, ◌<◌, ◌≤◌, Bool, true, false, cond, not, eqb, ◌≢◌, ◌⊎◌, List, [], ◌∷◌, map, length, get_or, take, set, replicate, filter, Option, sym, refl, ap, ◌∙◌, subst, ap₂, inl, inr, add-zero, arith, length-set, length-take, get_or-set_other, get_or-take, get_or-set_same}
 use Rattle.std.proofs.lemmas.Bool.{cases_lt, cond-true, cond-false, le-leb, lt-ltb}
 use Rattle.frames.specs.declared.row.Row.{Row}
 use Rattle.timing.specs.Carried.{carried}

@@ -1,15 +1,15 @@
 -- Bounds of costs and weights, and that a weight grows with the frame. Assumes nothing.
-use Rattle.std.proofs.Common.{◌≡◌, ℕ, zero, suc, ◌+◌, ◌*◌, ◌<◌, ◌≤◌, true, false, cond, List, Option, sym, refl, ap, ◌∙◌, subst, ⊎_elim, arith}
+use Rattle.std.proofs.Common.{◌≡◌, ℕ, ◌*◌, ◌≤◌, true, false, List, Option, sym, ap, ◌∙◌, subst, ⊎_elim, arith}
 use Rattle.std.proofs.lemmas.Bool.{cases_lt, cond-true, cond-false, cond_both}
 use Rattle.frames.specs.declared.row.Row.{Row}
 use Rattle.timing.specs.Carried.{in_set, carried}
 use Rattle.frames.specs.Payloads.{payload}
 use Rattle.frames.proofs.Fitting.{payload_le, payload_mono}
 use Rattle.streams.specs.declared.stream.Stream.{Stream}
-use Rattle.streams.specs.Demands.{weight, ceil}
+use Rattle.streams.specs.Demands.{weight}
 use Rattle.streams.proofs.Demanding.{weight_grows, ceil_le}
 use Rattle.domains.specs.Duties.{Duties}
-use Rattle.weights.specs.Weights.{weight_in, sum_below, row_weight}
+use Rattle.weights.specs.Weights.{weight_in, row_weight}
 
 module _ {D : Type 0} (count : D → ℕ) (cost : D → ℕ → ℕ → ℕ) (response : D → ℕ → Row → List Row → List Row → Option ℕ) (duties : Duties count cost response) (d : D) where
   -- in the bank and outside it

@@ -1,10 +1,10 @@
 use Rattle.timing.specs.Everywhere.{everywhere}
-use Rattle.std.proofs.Common.{◌≡◌, ◌-◌, true, false, [], length, take, set, is_some, sym, ap, ◌∙◌, arith}
+use Rattle.std.proofs.Common.{◌≡◌, ◌-◌, [], length, take, set, is_some, sym, ap, ◌∙◌, arith}
 use Rattle.timing.specs.Places.{by_number}
 use Rattle.timing.specs.Places.{row_at, above}
 use Rattle.domains.specs.declared.place.Place.TheVariants.{Absent}
 use Rattle.ordering.specs.Orders.{orderable, greedy}
-use Rattle.ordering.proofs.Dropping.{Dropping, dropping_none, dropping_kept, dropping_out, dropping_all, trial_above, trial_none, trial_count}
+use Rattle.ordering.proofs.Dropping.{dropping_none, dropping_kept, dropping_out, dropping_all, trial_none, trial_count}
 use Rattle.ordering.proofs.conflicts.find_conflict.Goals as goal
 use Rattle.ordering.proofs.conflicts.find_conflict.Goals.{then-not-has_order, else-not-has_order}
 

@@ -1,4 +1,4 @@
-use Rattle.std.proofs.Common.{◌≡◌, length, take, sym, ap, ◌∙◌, arith, length-take}
+use Rattle.std.proofs.Common.{◌≡◌, length, take, arith, length-take}
 use native.Mathlib.Nat.{sub-zero}
 use Rattle.timing.specs.Places.{is_above}
 use Rattle.shelf.proofs.Numbering.{chosen_most}

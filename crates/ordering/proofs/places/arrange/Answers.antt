@@ -1,10 +1,9 @@
 use Rattle.timing.specs.Everywhere.{everywhere}
 use Rattle.timing.proofs.Combining.{everywhere_laws}
-use Rattle.std.proofs.Common.{◌+◌, ◌<◌, ◌≤◌, length, sym, ap, ◌∙◌, subst, arith, rules}
+use Rattle.std.proofs.Common.{sym, ◌∙◌, arith}
 use Rattle.timing.specs.Places.{above, tested}
-use Rattle.ordering.specs.Orders.{examined}
 use Rattle.ordering.proofs.Greedy.{examined_most}
-use Rattle.ordering.proofs.Placing.{Placing, placing_none, placing_more, placing_end, placing_all, frame_within}
+use Rattle.ordering.proofs.Placing.{placing_none, placing_more, placing_end, placing_all, frame_within}
 use Rattle.ordering.proofs.places.arrange.Goals as goal
 
 pub loop-left-init : goal.loop-left-init

@@ -1,4 +1,4 @@
-use Rattle.std.proofs.Common.{◌≡◌, sym, ap, ◌∙◌, subst, arith}
+use Rattle.std.proofs.Common.{sym, ap, ◌∙◌, subst, arith}
 use Rattle.frames.specs.Limits.{Lawful}
 use Rattle.weights.specs.Weights.{row_weight}
 use Rattle.weights.proofs.Weighing.{cost_grows}

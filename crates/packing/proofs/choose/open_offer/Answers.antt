@@ -1,4 +1,4 @@
-use Rattle.std.proofs.Common.{◌≡◌, ℕ, sym, ap, ◌∙◌, subst, arith}
+use Rattle.std.proofs.Common.{ℕ, sym, ap, ◌∙◌, subst, arith}
 use Rattle.frames.specs.Limits.{Lawful}
 use Rattle.weights.specs.Weights.{row_weight}
 use Rattle.packing.specs.Choices.{at_frame, growth_at}

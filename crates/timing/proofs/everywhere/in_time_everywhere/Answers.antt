@@ -1,4 +1,4 @@
-use Rattle.std.proofs.Common.{◌≡◌, map, sym, ◌∙◌}
+use Rattle.std.proofs.Common.{map, sym, ◌∙◌}
 use Rattle.shelf.specs.Numbers.{without}
 use Rattle.timing.specs.Places.{above, below, row_at}
 use Rattle.timing.proofs.Timely.{from_none, from_all, from_late, from_more}

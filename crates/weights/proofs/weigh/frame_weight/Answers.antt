@@ -1,4 +1,4 @@
-use Rattle.std.proofs.Common.{◌≡◌, ℕ, ◌+◌, ap, ◌∙◌, ap₂, add-one, arith}
+use Rattle.std.proofs.Common.{◌≡◌, ◌+◌, ap, ◌∙◌, ap₂, add-one, arith}
 use Rattle.frames.specs.Records.{row_of}
 use Rattle.weights.specs.Weights.{weight_in, row_weight, sum_below}
 use Rattle.weights.proofs.weigh.frame_weight.Goals as goal

@@ -1,4 +1,4 @@
-use Rattle.std.proofs.Common.{◌≡◌, sym, ap, ◌∙◌, arith}
+use Rattle.std.proofs.Common.{sym, ap, ◌∙◌, arith}
 use Rattle.frames.proofs.Fitting.{payload_le}
 use Rattle.streams.proofs.Demanding.{weight_le}
 use Rattle.weights.proofs.Weighing.{cost_le, not_weighed, weighed, weightless}

@@ -1,8 +1,7 @@
-use Rattle.std.proofs.Common.{◌≡◌, map, length, take, set, sym, refl, ap, ◌∙◌, ap₂, arith}
+use Rattle.std.proofs.Common.{◌≡◌, map, length, take, set, sym, ap, ◌∙◌, ap₂, arith}
 use Rattle.std.proofs.lemmas.List.{get_or_default}
 use Rattle.std.proofs.lemmas.List.Edits.{map_over_more}
 use Rattle.packing.specs.Packings.{lower}
-use Rattle.signals.specs.Names.{no_entry}
 use Rattle.packing.proofs.Shifts.{mapped_front, mapped_length}
 use Rattle.packing.proofs.table.SignalTable.close_up.Goals as goal
 

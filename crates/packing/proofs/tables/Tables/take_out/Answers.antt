@@ -1,4 +1,4 @@
-use Rattle.std.proofs.Common.{◌≡◌, ap, ◌∙◌, arith}
+use Rattle.std.proofs.Common.{ap, ◌∙◌, arith}
 use Rattle.signals.specs.Riders.{riders}
 use Rattle.signals.specs.Rows.{row_by}
 use Rattle.packing.specs.Packings.{rows_of}

@@ -1,4 +1,4 @@
-use Rattle.std.proofs.Common.{◌≡◌, ◌<◌, [], ◌∷◌, length, get_or, sym, ap, ◌∙◌, arith, rules}
+use Rattle.std.proofs.Common.{◌<◌, [], ◌∷◌, length, get_or, sym, ap, ◌∙◌, arith, rules}
 use Rattle.plan.specs.Said.Said.{gives}
 use Rattle.signals.specs.Names.{place_of, no_entry}
 use Rattle.signals.proofs.Finding.{found_within}

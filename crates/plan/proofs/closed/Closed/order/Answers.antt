@@ -1,7 +1,6 @@
-use Rattle.std.proofs.Common.{◌≡◌, true, false, [], ◌∷◌, length, take, Some, None, sym, refl, ap, ◌∙◌, subst, ap₂}
+use Rattle.std.proofs.Common.{sym, refl, subst}
 use Rattle.std.proofs.lemmas.Bool.{true≢false}
 use Rattle.packing.specs.Holds.{held}
-use Rattle.packing.specs.Packings.{rows}
 use Rattle.timing.proofs.Combining.{everywhere_laws}
 use Rattle.plan.specs.Banks.{bank_of}
 use Rattle.plan.specs.Subject.{Upheld}

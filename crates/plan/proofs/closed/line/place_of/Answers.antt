@@ -1,4 +1,4 @@
-use Rattle.std.proofs.Common.{◌≡◌, sym, arith}
+use Rattle.std.proofs.Common.{arith}
 use Rattle.plan.proofs.Readings.{place_here, place_later, place_none}
 use Rattle.plan.proofs.closed.line.place_of.Goals as goal
 

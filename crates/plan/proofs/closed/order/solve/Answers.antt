@@ -1,4 +1,4 @@
-use Rattle.std.proofs.Common.{◌≡◌, length, ap, subst, arith}
+use Rattle.std.proofs.Common.{length, ap, subst, arith}
 use Rattle.packing.specs.Holds.{held}
 use Rattle.timing.specs.Everywhere.{everywhere}
 use Rattle.ordering.specs.Answers.{Answered}

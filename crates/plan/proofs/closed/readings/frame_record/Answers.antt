@@ -1,4 +1,4 @@
-use Rattle.std.proofs.Common.{◌≡◌, ◌<◌, sym, subst, arith}
+use Rattle.std.proofs.Common.{◌<◌, sym, subst, arith}
 use Rattle.frames.specs.Limits.{Lawful}
 use Rattle.packing.specs.Holds.{held}
 use Rattle.packing.proofs.Sounds.{to_sound}

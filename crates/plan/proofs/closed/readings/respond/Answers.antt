@@ -1,4 +1,4 @@
-use Rattle.std.proofs.Common.{◌≡◌, [], ◌∷◌, length, take, sym, ap, ◌∙◌, arith, length-take}
+use Rattle.std.proofs.Common.{◌≡◌, [], ◌∷◌, length, sym, ap, ◌∙◌, arith, length-take}
 use Rattle.timing.specs.Carried.{carried}
 use Rattle.packing.specs.Holds.{held}
 use Rattle.plan.specs.Banks.{bank_of}
