@@ -5,7 +5,7 @@ use Rattle.std.proofs.Common.{sym, subst, ◌∙◌, le_refl}
 use Rattle.std.proofs.Math.Logic.{⊎_elim}
 use native.Mathlib.Omega.{arith}
 use Rattle.std.proofs.Math.Nat.{le_trans, add-mul}
-use Rattle.std.specs.List.{AllByRecursion as All}
+use Rattle.std.specs.List.{AllByRecursion}
 use Rattle.std.proofs.lemmas.Nat.{mul-le}
 use Rattle.std.proofs.lemmas.Bool.{cases_lt}
 use Rattle.shelf.specs.Largest.{largest}
@@ -39,7 +39,7 @@ delay_smallest a s us b q w d =
     subst (Smallest (λ v. v ≡ queue_load a s us b q v) 0 horizon) d (solution_is (queue_load a s us b q) 0 horizon (omega arith))
 
 -- ---- the loads rise with the time
-module _ (s : Stream) (us : List Stream) (b : ℕ) (own : Fit s) (fit : All Fit us) where
+module _ (s : Stream) (us : List Stream) (b : ℕ) (own : Fit s) (fit : AllByRecursion Fit us) where
   lasting : 1 ≤ s.period
   lasting = omega (arith, own.paced)
 
@@ -95,7 +95,7 @@ or_zero_le None u v e h = let z : ◌≡◌ {A = ℕ} 0 1 = cc in absurd (omega 
 or_zero_le (Some t) (Some u) v e h = h
 or_zero_le (Some t) None v e h = absurd h
 
-module _ (a : ℕ) (s : Stream) (us : List Stream) (b : ℕ) (us' : List Stream) (b' : ℕ) (own : Fit s) (a_pos : 1 ≤ a) (short : a ≤ s.cost) (fit : All Fit us) (fit' : All Fit us')
+module _ (a : ℕ) (s : Stream) (us : List Stream) (b : ℕ) (us' : List Stream) (b' : ℕ) (own : Fit s) (a_pos : 1 ≤ a) (short : a ≤ s.cost) (fit : AllByRecursion Fit us) (fit' : AllByRecursion Fit us')
     (less : (w : ℕ) → 1 ≤ w → b' + demand us' w ≤ b + demand us w) where
   delay_no_later : (q : ℕ) → NoLater (delay a s us b q) (delay a s us' b' q)
   unfolding delay
@@ -127,7 +127,7 @@ module _ (a : ℕ) (s : Stream) (us : List Stream) (b : ℕ) (us' : List Stream)
           le_trans (instance_le l q e n) (le_largest (instance_time a s us b) (ceil l s.period) q n))
 
 -- ---- the answer in words
-module _ (a : ℕ) (s : Stream) (us : List Stream) (b : ℕ) (own : Fit s) (short : a ≤ s.cost) (fit : All Fit us) where
+module _ (a : ℕ) (s : Stream) (us : List Stream) (b : ℕ) (own : Fit s) (short : a ≤ s.cost) (fit : AllByRecursion Fit us) where
   -- one instance: it waits, begins no earlier than it is released, and its time is exact
   instance_is : (l q : ℕ) → busy_period s us b ≡ Some l → q < ceil l s.period
       → (w : ℕ) × Waits a s us b q w × (q * s.period ≤ w) × (w + s.cost ≡ instance_time a s us b q + q * s.period) × (w + s.cost ≤ l)

@@ -1,6 +1,6 @@
 // The busy period of a frame on a bus.
 ghost use Rattle.std.specs.Prelude.{◌≡◌, ◌+◌, ◌≤◌, ◌∷◌, length, take};
-ghost use Rattle.std.specs.List.{AllByRecursion as All};
+ghost use Rattle.std.specs.List.{AllByRecursion};
 ghost use Rattle.shelf.specs.Times.{AtMost};
 ghost use Rattle.streams.specs.Demands.{horizon, Fit};
 ghost use Rattle.bus.specs.Buses.{busy_period};
@@ -23,7 +23,7 @@ fn queue_of(own: Stream, above: &[Stream]) -> [Stream; 97]
 // With the blocking b, the busy period of the frame and those above it.
 pub(crate) fn busy_from(own: Stream, above: &[Stream], b: u64) -> Option<u64>
     requires own { Fit own }
-    requires over { All Fit above.now }
+    requires over { AllByRecursion Fit above.now }
     requires few { length above.now ≤ 96 }
     requires blocked { b ≤ 20000000 }
     ensures is { result ≡ busy_period own above.now b }

@@ -1,6 +1,6 @@
 -- The duties for all rows: where a row is outside the limits there is no answer. Assumes nothing.
 use Rattle.std.proofs.Common.{◌≡◌, ℕ, true, cond, ◌&&◌, List, ◌∷◌, None, Decides, Option, ap₂}
-use Rattle.std.specs.List.{AllByRecursion as All}
+use Rattle.std.specs.List.{AllByRecursion}
 use Rattle.std.proofs.lemmas.Bool.{and_parts, and_from, cond_both}
 use Rattle.frames.specs.declared.row.Row.{Row}
 use Rattle.frames.specs.Limits.{Lawful, lawful}
@@ -15,7 +15,7 @@ use Rattle.domains.specs.Asked.{reply}
 use Rattle.domains.specs.Duties.{Duties}
 use Rattle.domains.specs.Replies.{ReplyLaws}
 
-pub all_lawful : (rows : List Row) → Decides (every lawful rows) (All Lawful rows)
+pub all_lawful : (rows : List Row) → Decides (every lawful rows) (AllByRecursion Lawful rows)
 all_lawful = decides_every lawful Lawful decides_lawful
 
 -- what the test of the rows tells

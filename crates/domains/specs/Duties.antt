@@ -1,6 +1,6 @@
 -- What every kind of domain owes. Assumes nothing.
 use Rattle.std.specs.Prelude.{◌≡◌, ℕ, ◌<◌, ◌≤◌, List, ◌∷◌, None, Option}
-use Rattle.std.specs.List.{AllByRecursion as All}
+use Rattle.std.specs.List.{AllByRecursion}
 use Rattle.frames.specs.declared.row.Row.{Row}
 use Rattle.frames.specs.Limits.{Within, Lawful}
 use Rattle.shelf.specs.Picks.{Perm}
@@ -20,8 +20,8 @@ pub record Duties {D : Type 0} (count : D → ℕ) (cost : D → ℕ → ℕ →
   pub above_order : (d : D) (k : ℕ) (f : Row) (above other below : List Row) → Perm above other → response d k f above below ≡ response d k f other below
   pub below_order : (d : D) (k : ℕ) (f : Row) (above below other : List Row) → Perm below other → response d k f above below ≡ response d k f above other
   -- it is at most four seconds
-  pub bounded : (d : D) (k : ℕ) (f : Row) (above below : List Row) → Lawful f → All Lawful above → All Lawful below → AtMost horizon (response d k f above below)
+  pub bounded : (d : D) (k : ℕ) (f : Row) (above below : List Row) → Lawful f → AllByRecursion Lawful above → AllByRecursion Lawful below → AtMost horizon (response d k f above below)
   -- when a frame is taken out, or moved from above to below, a time stays a time and does not grow
-  pub drop_above : (d : D) (k : ℕ) (f x : Row) (above below : List Row) → Lawful f → Lawful x → All Lawful above → All Lawful below → NoLater (response d k f (x ∷ above) below) (response d k f above below)
-  pub drop_below : (d : D) (k : ℕ) (f x : Row) (above below : List Row) → Lawful f → Lawful x → All Lawful above → All Lawful below → NoLater (response d k f above (x ∷ below)) (response d k f above below)
-  pub move_down : (d : D) (k : ℕ) (f x : Row) (above below : List Row) → Lawful f → Lawful x → All Lawful above → All Lawful below → NoLater (response d k f (x ∷ above) below) (response d k f above (x ∷ below))
+  pub drop_above : (d : D) (k : ℕ) (f x : Row) (above below : List Row) → Lawful f → Lawful x → AllByRecursion Lawful above → AllByRecursion Lawful below → NoLater (response d k f (x ∷ above) below) (response d k f above below)
+  pub drop_below : (d : D) (k : ℕ) (f x : Row) (above below : List Row) → Lawful f → Lawful x → AllByRecursion Lawful above → AllByRecursion Lawful below → NoLater (response d k f above (x ∷ below)) (response d k f above below)
+  pub move_down : (d : D) (k : ℕ) (f x : Row) (above below : List Row) → Lawful f → Lawful x → AllByRecursion Lawful above → AllByRecursion Lawful below → NoLater (response d k f (x ∷ above) below) (response d k f above (x ∷ below))

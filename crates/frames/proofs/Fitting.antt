@@ -1,6 +1,6 @@
 -- The payload of a fill: the walk through the rising sizes finds the smallest that fits. Assumes nothing.
 use Rattle.std.proofs.Common.{◌≡◌, ℕ, ◌+◌, ◌<◌, ◌≤◌, Bool, true, false, cond, ◌&&◌, eqb, leb, List, [], ◌∷◌, length, get_or, drop, is_some, Some, None, Decides, Option, sym, refl, ap, ◌∙◌, subst, subst₂, ⊎_elim, le_trans, le_refl, arith}
-use Rattle.std.specs.List.{AllByRecursion as All}
+use Rattle.std.specs.List.{AllByRecursion}
 use Rattle.std.proofs.lemmas.List.{at_drop_more}
 use Rattle.std.proofs.lemmas.Bool.{cond-true, cond-false, or_cases, or_left, or_right, eqb-true, eq-eqb, le-leb, lt-leb, leb-true, leb-false, and_parts, and_from, cases_lt}
 use Rattle.shelf.specs.Smallest.{Smallest, smallest}
@@ -22,9 +22,9 @@ module _ (xs : List ℕ) (i n : ℕ) (within : i < length xs) where
 -- each number is no more than those behind it
 abbrev Rising : List ℕ → Type 0
 Rising [] = Unit {0}
-Rising (x ∷ xs) = All (λ y. x ≤ y) xs × Rising xs
+Rising (x ∷ xs) = AllByRecursion (λ y. x ≤ y) xs × Rising xs
 
-all_one_of : (P : ℕ → Type 0) (xs : List ℕ) → All P xs → (s : ℕ) → one_of s xs ≡ true → P s
+all_one_of : (P : ℕ → Type 0) (xs : List ℕ) → AllByRecursion P xs → (s : ℕ) → one_of s xs ≡ true → P s
 all_one_of P [] a s e = let z : ◌≡◌ {A = ℕ} 0 1 = cc in absurd (omega arith)
 all_one_of P (x ∷ xs) a s e =
     ⊎_elim {C = P s} (λ h. subst P (sym (eqb-true s x h)) a.0) (λ h. all_one_of P xs a.1 s h) (or_cases (eqb s x) (one_of s xs) e)
@@ -33,7 +33,7 @@ all_one_of P (x ∷ xs) a s e =
 abbrev FitsIn : List ℕ → ℕ → ℕ → Type 0
 FitsIn xs n s = (one_of s xs ≡ true) × (n ≤ s)
 
-walk_is : (xs : List ℕ) (n : ℕ) → Rising xs → All (λ x. x ≤ 64) xs → Smallest (FitsIn xs n) 0 64 (walk xs n)
+walk_is : (xs : List ℕ) (n : ℕ) → Rising xs → AllByRecursion (λ x. x ≤ 64) xs → Smallest (FitsIn xs n) 0 64 (walk xs n)
 walk_is [] n r a = λ v l h p. let e = p.0 in let z : ◌≡◌ {A = ℕ} 0 1 = cc in absurd (omega arith)
 walk_is (x ∷ xs) n r a = by (leb n x) refl (walk xs n) (walk_is xs n r.1 a.1)
   where

@@ -2,7 +2,7 @@
 use Rattle.std.specs.Prelude.{◌≡◌, ℕ, ◌+◌, ◌≤◌, List, ◌∷◌, refl}
 use Rattle.std.proofs.Common.{ap, arith, mul-le-mul_left}
 use Rattle.std.proofs.Math.Path.{fun_ext}
-use Rattle.std.specs.List.{AllByRecursion as All}
+use Rattle.std.specs.List.{AllByRecursion}
 use Rattle.std.proofs.lemmas.Nat.{mul-le}
 use Rattle.shelf.specs.Picks.{Perm}
 use Rattle.shelf.specs.Smallest.{solution}
@@ -39,7 +39,7 @@ unfolding relayed
 time_bounded s us ls = solution_at_most (served s us) 1 horizon (omega arith)
 
 -- one stream less above, whatever stands below
-without_above : (s x : Stream) (us ls ls' : List Stream) → Fit s → All Fit us → NoLater (relayed s (x ∷ us) ls) (relayed s us ls')
+without_above : (s x : Stream) (us ls ls' : List Stream) → Fit s → AllByRecursion Fit us → NoLater (relayed s (x ∷ us) ls) (relayed s us ls')
 unfolding relayed
 without_above s x us ls ls' f m =
     solution_no_later (served s (x ∷ us)) (served s us) 1 horizon (omega arith) (λ v w h. omega (arith, demand_mono us m v w h)) (omega (arith, f.priced)) (λ w h. omega (arith, demand_cons x us w))

@@ -1,6 +1,6 @@
 -- What a look at a list gives to a kind. Assumes nothing.
 use Rattle.std.proofs.Common.{◌≡◌, ℕ, List, get_or, Option, sym, ap, ◌∙◌, subst, ap₂}
-use Rattle.std.specs.List.{AllByRecursion as All}
+use Rattle.std.specs.List.{AllByRecursion}
 use Rattle.frames.specs.declared.row.Row.{Row}
 use Rattle.streams.specs.declared.stream.Stream.{Stream}
 use Rattle.streams.specs.Demands.{Fit}
@@ -18,11 +18,11 @@ module _ {D : Type 0} {price : D → ℕ → ℕ} {time : D → Stream → List 
   pub seen_own : Own (price d) v.own
   seen_own = subst (Own (price d)) (sym seen.own_is) (own_by laws d _ seen.lawful_own)
 
-  pub seen_above : All Fit (listed v.above)
-  seen_above = subst (All Fit) (sym seen.above_is) (all_fit laws d _ seen.lawful_above)
+  pub seen_above : AllByRecursion Fit (listed v.above)
+  seen_above = subst (AllByRecursion Fit) (sym seen.above_is) (all_fit laws d _ seen.lawful_above)
 
-  pub seen_below : All Fit (listed v.below)
-  seen_below = subst (All Fit) (sym seen.below_is) (all_fit laws d _ seen.lawful_below)
+  pub seen_below : AllByRecursion Fit (listed v.below)
+  seen_below = subst (AllByRecursion Fit) (sym seen.below_is) (all_fit laws d _ seen.lawful_below)
 
 -- what is made of the streams is what the question is answered
 pub seen_is : (price : ℕ → ℕ) (rows : List Row) (places : List Place) (f : ℕ) (v : View) → Seen price rows places f v → (m : Stream → List Stream → List Stream → Option ℕ) (us ls : List Stream) → us ≡ listed v.above → ls ≡ listed v.below → m v.own us ls ≡ asked (of_streams price m) rows places f

@@ -1,6 +1,6 @@
 -- The duties of a kind over rows, from those over streams. Assumes nothing.
 use Rattle.std.proofs.Common.{◌≡◌, ℕ, ◌<◌, ◌≤◌, true, false, cond, eqb, List, map, None, Option, ap, arith}
-use Rattle.std.specs.List.{AllByRecursion as All}
+use Rattle.std.specs.List.{AllByRecursion}
 use Rattle.std.proofs.ByRecursion.{All-map, All-weaker}
 use Rattle.std.proofs.lemmas.Bool.{cond-false, eq-eqb, ne_eqb}
 use Rattle.frames.specs.declared.row.Row.{Row}
@@ -29,7 +29,7 @@ module _ {D : Type 0} {price : D → ℕ → ℕ} {time : D → Stream → List 
   pub own_by : (d : D) (r : Row) → Lawful r → Own (price d) (stream_by (price d) r)
   own_by d r l = record { fit = fit_by d r l; least = laws.grows d 0 (payload r.fill) (omega arith) (payload_le r.fill) }
 
-  pub all_fit : (d : D) (rows : List Row) → All Lawful rows → All Fit (map (stream_by (price d)) rows)
+  pub all_fit : (d : D) (rows : List Row) → AllByRecursion Lawful rows → AllByRecursion Fit (map (stream_by (price d)) rows)
   all_fit d rows l = All-map Fit (stream_by (price d)) rows (All-weaker Lawful (λ r. Fit (stream_by (price d) r)) (fit_by d) rows l)
 
   pub kind_duties : Duties one (alone_cost price) (alone_response price time)

@@ -1,6 +1,6 @@
 -- What a look at a list finds. Assumes nothing.
 use Rattle.std.specs.Prelude.{◌≡◌, ℕ, List, map, Some, None, Option, slice_index_or}
-use Rattle.std.specs.List.{AllByRecursion as All}
+use Rattle.std.specs.List.{AllByRecursion}
 use Rattle.frames.specs.declared.row.Row.{Row}
 use Rattle.frames.specs.Limits.{Lawful}
 use Rattle.domains.specs.declared.place.Place.{Place}
@@ -13,8 +13,8 @@ use Rattle.kinds.specs.Tables.{listed}
 -- each row told of is within the limits, the streams are theirs, and a question is answered by them
 pub record Seen (price : ℕ → ℕ) (rows : List Row) (places : List Place) (f : ℕ) (v : View) : Type 0 where
   pub lawful_own : Lawful (slice_index_or rows f no_row)
-  pub lawful_above : All Lawful (standing Above rows places f)
-  pub lawful_below : All Lawful (standing Below rows places f)
+  pub lawful_above : AllByRecursion Lawful (standing Above rows places f)
+  pub lawful_below : AllByRecursion Lawful (standing Below rows places f)
   pub own_is : v.own ≡ stream_by price (slice_index_or rows f no_row)
   pub above_is : listed v.above ≡ map (stream_by price) (standing Above rows places f)
   pub below_is : listed v.below ≡ map (stream_by price) (standing Below rows places f)

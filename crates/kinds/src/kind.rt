@@ -1,6 +1,6 @@
 // A kind of domain, by what it makes of streams.
 ghost use Rattle.std.specs.Prelude.{◌≡◌, ℕ, ◌≤◌, List, length, Option};
-ghost use Rattle.std.specs.List.{AllByRecursion as All};
+ghost use Rattle.std.specs.List.{AllByRecursion};
 ghost use Rattle.streams.specs.declared.stream.Stream.{Stream};
 ghost use Rattle.streams.specs.Demands.{Fit};
 ghost use Rattle.kinds.specs.KindLaws.{KindLaws, Own};
@@ -19,8 +19,8 @@ pub trait Kind {
 
     fn time(&self, own: Stream, above: &[Stream], below: &[Stream]) -> Option<u64>
         requires own { Own (price self.now) own }
-        requires over { All Fit above.now }
-        requires under { All Fit below.now }
+        requires over { AllByRecursion Fit above.now }
+        requires under { AllByRecursion Fit below.now }
         requires few { length above.now ≤ 96 }
         requires less { length below.now ≤ 96 }
         ensures { result ≡ time self.now own above.now below.now };

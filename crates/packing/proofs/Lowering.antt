@@ -1,6 +1,6 @@
 -- The riders of each frame once a frame is gone. Assumes nothing.
 use Rattle.std.proofs.Common.{◌≡◌, ℕ, suc, ◌-◌, ◌<◌, cond, eqb, ltb, List, [], ◌∷◌, map, sym, refl, ap, ◌∙◌, ⊎_elim, arith}
-use Rattle.std.specs.List.{AllByRecursion as All}
+use Rattle.std.specs.List.{AllByRecursion}
 use Rattle.std.proofs.lemmas.Bool.{cases_Bool, eqb-true, eqb-false}
 use Rattle.std.proofs.lemmas.Bool.Decides.{nat_tests}
 use Rattle.signals.specs.declared.signal.Entry.{Entry}
@@ -28,7 +28,7 @@ lowered_below f k n l m ne = grind (arith, nat_tests)
 same_test : (f n k : ℕ) → (n ≡ f → ⊥) → eqb (lowered f n) k ≡ eqb n (raised f k)
 same_test f n k ne = grind (arith, nat_tests)
 
-pub riders_lowered : (f k : ℕ) (es : List Entry) → All (λ e. e.frame ≡ f → ⊥) es → riders k (map (lower f) es) ≡ riders (raised f k) es
+pub riders_lowered : (f k : ℕ) (es : List Entry) → AllByRecursion (λ e. e.frame ≡ f → ⊥) es → riders k (map (lower f) es) ≡ riders (raised f k) es
 riders_lowered f k [] h = riders_nil k ∙ sym (riders_nil (raised f k))
 riders_lowered f k (e ∷ es) h =
     let same = same_test f e.frame k h.0 in
@@ -43,7 +43,7 @@ names_lowered f [] = refl
 names_lowered f (e ∷ es) = ap (λ ns. e.signal.name ∷ ns) (names_lowered f es)
 
 -- frames before the one that is gone keep their numbers
-pub lower_none : (f : ℕ) (es : List Entry) → All (λ e. e.frame < f) es → map (lower f) es ≡ es
+pub lower_none : (f : ℕ) (es : List Entry) → AllByRecursion (λ e. e.frame < f) es → map (lower f) es ≡ es
 lower_none f [] h = refl
 lower_none f (e ∷ es) h =
     let same : lowered f e.frame ≡ e.frame = stays f e.frame h.0 in

@@ -1,7 +1,7 @@
 -- What the look at one frame finds, and that the choice may take the signal. Assumes nothing.
 use Rattle.std.proofs.Common.{◌≡◌, ℕ, suc, ◌+◌, ◌-◌, ◌<◌, ◌≤◌, Bool, true, false, cond, ltb, List, [], ◌∷◌, ◌++◌, length, Some, None, Option, sym, refl, ap, ◌∙◌, subst, ap₂, ⊎_elim, arith}
 use native.Mathlib.Nat.{min-le_left}
-use Rattle.std.specs.List.{AllByRecursion as All}
+use Rattle.std.specs.List.{AllByRecursion}
 use Rattle.std.proofs.lemmas.Bool.{cond-true, cond-false, lt-ltb, le-ltb, ltb-true, eq-eqb, ne_eqb, le-leb, lt-leb, and_from, and_left, and_right, cases_lt}
 use Rattle.timing.specs.Carried.{in_set}
 use Rattle.frames.specs.Limits.{Lawful}
@@ -77,7 +77,7 @@ some_true true x y e f = f refl
 some_true false x y e f = let z : ◌≡◌ {A = ℕ} 0 1 = cc in absurd (let no : ⊥ = omega arith in no)
 
 -- the choice may take the signal
-pub choice_placeable : (cost : ℕ → ℕ → ℕ) (p : Packing) (s : Signal) (c : Choice) → Sound p → LawfulSignal s → length p.signals < 256 → All (λ y. y ≡ s.name → ⊥) (names p.signals) → choice cost p s ≡ Some c → Placeable p s c.frame
+pub choice_placeable : (cost : ℕ → ℕ → ℕ) (p : Packing) (s : Signal) (c : Choice) → Sound p → LawfulSignal s → length p.signals < 256 → AllByRecursion (λ y. y ≡ s.name → ⊥) (names p.signals) → choice cost p s ≡ Some c → Placeable p s c.frame
 unfolding choice growth_at
 choice_placeable cost p s c h l few free e =
     let o = subst (Best (growth_at cost p s) (suc p.frames)) e (best_is (growth_at cost p s) (suc p.frames)) in

@@ -1,6 +1,6 @@
 -- A packing stays sound where a signal goes to a frame that may take it. Assumes nothing.
 use Rattle.std.proofs.Common.{◌≡◌, ℕ, ◌+◌, ◌<◌, ◌≤◌, List, [], ◌∷◌, ◌++◌, sym, refl, ap, ◌∙◌, subst, ⊎_elim, arith}
-use Rattle.std.specs.List.{AllByRecursion as All}
+use Rattle.std.specs.List.{AllByRecursion}
 use Rattle.std.proofs.lemmas.List.{length_push, map_push}
 use Rattle.std.proofs.ByRecursion.{All-push, All-weaker}
 use Rattle.std.proofs.lemmas.Bool.{cases_eq, cases_lt, and_parts, eqb-true, leb-true}
@@ -27,14 +27,14 @@ riders_past p n h l =
 pub fill_past : (p : Packing) (n : ℕ) → Sound p → p.frames ≤ n → (row p n).fill ≡ 0
 fill_past p n h l = ap (λ ss. (row_by ss).fill) (riders_past p n h l) ∙ ap (λ r. r.fill) row_nil
 
-pub lawful_riders : (p : Packing) (n : ℕ) → Sound p → All LawfulSignal (riders n p.signals)
+pub lawful_riders : (p : Packing) (n : ℕ) → Sound p → AllByRecursion LawfulSignal (riders n p.signals)
 lawful_riders p n h =
     riders_all n LawfulSignal p.signals (All-weaker (Fair p) (λ e. e.frame ≡ n → LawfulSignal e.signal) (λ e f q. f.lawful) p.signals h.signals)
 
 pub fill_push : (ss : List Signal) (s : Signal) → (row_by (ss ++ (s ∷ []))).fill ≡ (row_by ss).fill + s.size
 fill_push ss s = ap (λ r. r.fill) (row_push ss s)
 
-pub lawful_push : (ss : List Signal) (s : Signal) → All LawfulSignal ss → LawfulSignal s → (row_by ss).fill + s.size ≤ 64 → Lawful (row_by (ss ++ (s ∷ [])))
+pub lawful_push : (ss : List Signal) (s : Signal) → AllByRecursion LawfulSignal ss → LawfulSignal s → (row_by ss).fill + s.size ≤ 64 → Lawful (row_by (ss ++ (s ∷ [])))
 lawful_push [] s h l room = row_lawful s [] (l, tt) (omega (arith, fill_push [] s))
 lawful_push (t ∷ ss) s h l room =
     row_lawful t (ss ++ (s ∷ [])) (h.0, All-push LawfulSignal ss s h.1 l) (omega (arith, fill_push (t ∷ ss) s))

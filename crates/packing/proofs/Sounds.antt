@@ -1,6 +1,6 @@
 -- What the tables keep of a packing, as a fact and as a test. Assumes nothing.
 use Rattle.std.proofs.Common.{◌≡◌, ℕ, ◌<◌, ◌≤◌, true, List, length, Decides, sym, subst, arith}
-use Rattle.std.specs.List.{AllByRecursion as All}
+use Rattle.std.specs.List.{AllByRecursion}
 use Rattle.std.proofs.lemmas.Bool.{and_parts, and_from, leb-true, le-leb, ltb-true, lt-ltb, eqb-true, eq-eqb}
 use Rattle.std.proofs.ByRecursion.{All-get_or, All-from_get_or}
 use Rattle.std.proofs.lemmas.List.FromFn.{length-map-range_with_len, get_or-map-range_with_len}
@@ -30,7 +30,7 @@ pub record Sound (p : Packing) : Type 0 where
   pub few : length p.signals ≤ 256
   pub room : p.frames ≤ 96
   pub apart_names : Apart (names p.signals)
-  pub signals : All (Fair p) p.signals
+  pub signals : AllByRecursion (Fair p) p.signals
   pub frames : (n : ℕ) → n < p.frames → Lawful (row p n)
 
 decides_fair : (p : Packing) (e : Entry) → Decides (fair p e) (Fair p e)
@@ -42,21 +42,21 @@ decides_fair p e = (
   (λ h. and_from _ _ ((decides_signal e.signal).1 h.lawful) (and_from _ _ (lt-ltb _ _ h.within) (eq-eqb _ _ h.of_sender))),
 )
 
-fairs : (p : Packing) (es : List Entry) → Decides (every (fair p) es) (All (Fair p) es)
+fairs : (p : Packing) (es : List Entry) → Decides (every (fair p) es) (AllByRecursion (Fair p) es)
 fairs p = decides_every (fair p) (Fair p) (decides_fair p)
 
-all_lawful : (rs : List Row) → Decides (every lawful rs) (All Lawful rs)
+all_lawful : (rs : List Row) → Decides (every lawful rs) (AllByRecursion Lawful rs)
 all_lawful = decides_every lawful Lawful decides_lawful
 
 module _ (p : Packing) where
   abbrev at : ℕ → Row
   at k = row_by (riders k p.signals)
 
-  each_row : All Lawful (rows p) → (n : ℕ) → n < p.frames → Lawful (row p n)
+  each_row : AllByRecursion Lawful (rows p) → (n : ℕ) → n < p.frames → Lawful (row p n)
   each_row h n l =
       subst Lawful (get_or-map-range_with_len at 0 p.frames n n no_row l (omega arith)) (All-get_or Lawful (rows p) n no_row (omega (arith, length-map-range_with_len at 0 p.frames)) h)
 
-  pub lawful_rows : ((n : ℕ) → n < p.frames → Lawful (row p n)) → All Lawful (rows p)
+  pub lawful_rows : ((n : ℕ) → n < p.frames → Lawful (row p n)) → AllByRecursion Lawful (rows p)
   lawful_rows h =
       All-from_get_or Lawful (rows p) no_row (λ n l. let k : n < p.frames = omega (arith, length-map-range_with_len at 0 p.frames) in subst Lawful (sym (get_or-map-range_with_len at 0 p.frames n n no_row k (omega arith))) (h n k))
 

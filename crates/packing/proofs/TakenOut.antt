@@ -1,6 +1,6 @@
 -- A packing stays sound where a signal is taken out. Assumes nothing.
 use Rattle.std.proofs.Common.{◌≡◌, ℕ, suc, ◌-◌, ◌<◌, ◌≤◌, true, false, List, [], ◌∷◌, ◌++◌, map, length, get_or, take, drop, sym, ap, ◌∙◌, subst, ap₂, ⊎_elim, arith}
-use Rattle.std.specs.List.{remove, AllByRecursion as All}
+use Rattle.std.specs.List.{remove, AllByRecursion}
 use Rattle.std.proofs.lemmas.List.{length-map, map-append, take-map, drop-map}
 use Rattle.std.proofs.lemmas.List.Edits.{length-remove}
 use Rattle.std.proofs.ByRecursion.{All-weaker, All-append, All-take, All-drop, All-get_or, All-map}
@@ -20,7 +20,7 @@ use Rattle.packing.proofs.Lowering.{raised, raised_lowered, raised_other, raised
 use Rattle.packing.proofs.Sounds.{Sound, Fair}
 
 -- two facts of each element
-all_both : {X : Type 0} (P Q : X → Type 0) (xs : List X) → All P xs → All Q xs → All (λ x. P x × Q x) xs
+all_both : {X : Type 0} (P Q : X → Type 0) (xs : List X) → AllByRecursion P xs → AllByRecursion Q xs → AllByRecursion (λ x. P x × Q x) xs
 all_both P Q [] p q = tt
 all_both P Q (x ∷ xs) p q = ((p.0, q.0), all_both P Q xs p.1 q.1)
 
@@ -47,7 +47,7 @@ module _ (p : Packing) (i : ℕ) (h : Sound p) (within : i < length p.signals) w
   abbrev left : List Entry
   left = remove p.signals i
 
-  fair_left : All (Fair p) left
+  fair_left : AllByRecursion (Fair p) left
   fair_left =
       All-append (Fair p) _ _ (All-take (Fair p) i p.signals h.signals) (All-drop (Fair p) (suc i) p.signals h.signals)
 
@@ -61,11 +61,11 @@ module _ (p : Packing) (i : ℕ) (h : Sound p) (within : i < length p.signals) w
   same_riders : (k : ℕ) → (k ≡ gone → ⊥) → riders k left ≡ riders k p.signals
   same_riders k ne = riders_removed_other k p.signals i within (λ e. ne (sym e))
 
-  riders_left : (k : ℕ) → All LawfulSignal (riders k left)
+  riders_left : (k : ℕ) → AllByRecursion LawfulSignal (riders k left)
   riders_left k =
       riders_all k LawfulSignal left (All-weaker (Fair p) (λ e. e.frame ≡ k → LawfulSignal e.signal) (λ e f q. f.lawful) left fair_left)
 
-  one_sender : (k : ℕ) → All (λ s. s.sender ≡ (row p k).sender) (riders k left)
+  one_sender : (k : ℕ) → AllByRecursion (λ s. s.sender ≡ (row p k).sender) (riders k left)
   one_sender k =
       riders_all k (λ s. s.sender ≡ (row p k).sender) left (All-weaker (Fair p) (λ e. e.frame ≡ k → e.signal.sender ≡ (row p k).sender) (λ e f q. f.of_sender ∙ ap (λ j. (row p j).sender) q) left fair_left)
 
@@ -75,7 +75,7 @@ module _ (p : Packing) (i : ℕ) (h : Sound p) (within : i < length p.signals) w
     lawful_left =
         let r = riders_some gone left some in
         let less : (row_by (riders gone left)).fill ≤ 64 = omega (arith, fill_without gone p.signals i within, (h.frames gone gone_below).filled.1) in
-        subst (λ ss. Lawful (row_by ss)) (sym r.2) (row_lawful r.0 r.1 (subst (All LawfulSignal) r.2 (riders_left gone)) (subst (λ ss. (row_by ss).fill ≤ 64) r.2 less))
+        subst (λ ss. Lawful (row_by ss)) (sym r.2) (row_lawful r.0 r.1 (subst (AllByRecursion LawfulSignal) r.2 (riders_left gone)) (subst (λ ss. (row_by ss).fill ≤ 64) r.2 less))
 
     row_left : (k : ℕ) → k < p.frames → Lawful (row_by (riders k left))
     row_left k l = ⊎_elim {C = Lawful (row_by (riders k left))}
@@ -86,7 +86,7 @@ module _ (p : Packing) (i : ℕ) (h : Sound p) (within : i < length p.signals) w
     sender_left : (k : ℕ) → any_in k left ≡ true → (row_by (riders k left)).sender ≡ (row p k).sender
     sender_left k t =
         let r = riders_some k left t in
-        ap (λ ss. (row_by ss).sender) r.2 ∙ row_sender (row p k).sender r.0 r.1 (subst (All (λ s. s.sender ≡ (row p k).sender)) r.2 (one_sender k))
+        ap (λ ss. (row_by ss).sender) r.2 ∙ row_sender (row p k).sender r.0 r.1 (subst (AllByRecursion (λ s. s.sender ≡ (row p k).sender)) r.2 (one_sender k))
 
     sound_left : Sound (packed left p.frames)
     sound_left = record {
@@ -99,7 +99,7 @@ module _ (p : Packing) (i : ℕ) (h : Sound p) (within : i < length p.signals) w
 
   -- the frame is empty, and leaves
   module _ (none : any_in gone left ≡ false) where
-    others : All (λ e. e.frame ≡ gone → ⊥) left
+    others : AllByRecursion (λ e. e.frame ≡ gone → ⊥) left
     others = none_in gone left none
 
     row_moved : (k : ℕ) → row_by (riders k (map (lower gone) left)) ≡ row p (raised gone k)

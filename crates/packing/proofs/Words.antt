@@ -1,6 +1,6 @@
 -- What the tables keep of a packing, in words. Assumes nothing.
 use Rattle.std.proofs.Common.{◌≡◌, ℕ, ◌≤◌, List, [], ◌∷◌, refl, ap, ◌∙◌, arith}
-use Rattle.std.specs.List.{AllByRecursion as All}
+use Rattle.std.specs.List.{AllByRecursion}
 use Rattle.std.proofs.ByRecursion.{All-weaker}
 use Rattle.shelf.proofs.Perms.{all_pick, pick_known}
 use Rattle.signals.specs.declared.signal.Signal.{Signal}
@@ -16,7 +16,7 @@ use Rattle.packing.proofs.Placing.{lawful_riders}
 use Rattle.packing.proofs.Sounds.{Sound, Fair}
 
 -- signals that fill something are there
-gathered_by : (q : ℕ) (ss : List Signal) → All LawfulSignal ss → All (λ s. s.sender ≡ q) ss → 1 ≤ (row_by ss).fill → Gathered ss (row_by ss)
+gathered_by : (q : ℕ) (ss : List Signal) → AllByRecursion LawfulSignal ss → AllByRecursion (λ s. s.sender ≡ q) ss → 1 ≤ (row_by ss).fill → Gathered ss (row_by ss)
 gathered_by q [] h one some = absurd (let no : ⊥ = omega (arith, ap (λ r. r.fill) row_nil) in no)
 gathered_by q (s ∷ ss) h one some = row_gathered s ss h q one
 

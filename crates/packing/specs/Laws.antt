@@ -1,6 +1,6 @@
 -- What every packing keeps, and what enter chooses, in words. Assumes nothing.
 use Rattle.std.specs.Prelude.{◌≡◌, ℕ, ◌<◌, ◌≤◌, true, length, ◌≢◌}
-use Rattle.std.specs.List.{AllByRecursion as All}
+use Rattle.std.specs.List.{AllByRecursion}
 use Rattle.frames.specs.Limits.{Lawful}
 use Rattle.shelf.specs.Apart.{Apart}
 use Rattle.shelf.specs.Picks.{Among}
@@ -34,7 +34,7 @@ pub record WellPacked (p : Packing) : Type 0 where
 pub record Placeable (p : Packing) (s : Signal) (n : ℕ) : Type 0 where
   pub lawful : LawfulSignal s
   pub few : length p.signals < 256
-  pub free : All (λ y. y ≢ s.name) (names p.signals)
+  pub free : AllByRecursion (λ y. y ≢ s.name) (names p.signals)
   pub near : n ≤ p.frames
   pub room : n < 96
   pub joins : n < p.frames → may_join (row p n) s ≡ true

@@ -1,6 +1,6 @@
 -- What the readings look up. Assumes nothing.
 use Rattle.std.proofs.Common.{◌≡◌, ℕ, zero, suc, ◌+◌, ◌-◌, ◌<◌, ◌≤◌, Bool, true, false, cond, ◌||◌, eqb, List, [], ◌∷◌, ◌++◌, map, length, get_or, take, drop, set, is_some, Some, None, Option, sym, refl, ap, ◌∙◌, subst, ap₂, arith}
-use Rattle.std.specs.List.{AllByRecursion as All}
+use Rattle.std.specs.List.{AllByRecursion}
 use Rattle.std.specs.Option.{ok_or}
 use Rattle.std.proofs.lemmas.List.FromFn.{length-map-range_with_len}
 use Rattle.std.proofs.ByRecursion.{All-weaker}
@@ -51,7 +51,7 @@ module _ (n : ℕ) (xs : List ℕ) (i : ℕ) where
   place_none l = at_drop_all (place_in n) xs i l
 
 -- whether a number was chosen
-among_none : (k : ℕ) (xs : List ℕ) → All (λ y. k < y) xs → among k xs ≡ false
+among_none : (k : ℕ) (xs : List ℕ) → AllByRecursion (λ y. k < y) xs → among k xs ≡ false
 among_none k [] h = refl
 among_none k (x ∷ xs) h = ap₂ ◌||◌ (ne_eqb x k (omega (arith, h.0))) (among_none k xs h.1)
 

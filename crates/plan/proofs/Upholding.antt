@@ -1,6 +1,6 @@
 -- What order leaves standing is right. Assumes nothing.
 use Rattle.std.proofs.Common.{◌≡◌, ℕ, suc, ◌+◌, ◌<◌, ◌≤◌, true, List, [], ◌∷◌, ◌++◌, map, length, Some, None, Option, sym, refl, ap, ◌∙◌, subst, ap₂, arith}
-use Rattle.std.specs.List.{AllByRecursion as All}
+use Rattle.std.specs.List.{AllByRecursion}
 use Rattle.std.proofs.lemmas.List.FromFn.{get_or-map-range_with_len}
 use Rattle.std.proofs.ByRecursion.{All-weaker}
 use Rattle.std.proofs.lemmas.List.{length-map}
@@ -38,7 +38,7 @@ place_split n (u ∷ us) ls a =
     let ne : u ≡ n → ⊥ = λ e. all_pick (λ z. z ≡ u → ⊥) a.0 (pick_middle n us ls) (sym e) in
     cond-false _ _ _ (ne_eqb u n ne) ∙ ap suc (place_split n us ls a.1)
 
-all_split : {X : Type 0} (P : X → Type 0) (us : List X) (n : X) (ls : List X) → All P (us ++ (n ∷ ls)) → All P us × P n × All P ls
+all_split : {X : Type 0} (P : X → Type 0) (us : List X) (n : X) (ls : List X) → AllByRecursion P (us ++ (n ∷ ls)) → AllByRecursion P us × P n × AllByRecursion P ls
 all_split P [] n ls h = (tt, h.0, h.1)
 all_split P (u ∷ us) n ls h = let k = all_split P us n ls h.1 in ((h.0, k.0), k.1, k.2)
 
@@ -51,16 +51,16 @@ module _ (p : Packing) where
   pub row_there : (n : ℕ) → n < p.frames → row_at (rows p) n ≡ row p n
   row_there n h = get_or-map-range_with_len (row p) 0 p.frames n n no_row h (omega arith)
 
-  rows_same : (ns : List ℕ) → All (λ n. n < p.frames) ns → map (row p) ns ≡ rows_at p ns
+  rows_same : (ns : List ℕ) → AllByRecursion (λ n. n < p.frames) ns → map (row p) ns ≡ rows_at p ns
   rows_same [] h = refl
   rows_same (n ∷ ns) h = ap₂ (λ r rs. r ∷ rs) (sym (row_there n h.0)) (rows_same ns h.1)
 
   -- an order of the frames, split at one of them
   module _ (few : p.frames ≤ 96) (o : List ℕ) (once : Perm (numbers 0 (rows p)) o) (us : List ℕ) (n : ℕ) (ls : List ℕ) (split : o ≡ us ++ (n ∷ ls)) where
-    each_below : All (λ i. i < p.frames) us × (n < p.frames) × All (λ i. i < p.frames) ls
+    each_below : AllByRecursion (λ i. i < p.frames) us × (n < p.frames) × AllByRecursion (λ i. i < p.frames) ls
     each_below =
         let a = All-weaker (λ i. i < 0 + length (rows p)) (λ i. i < p.frames) (λ i l. omega (arith, rows_long p)) (numbers 0 (rows p)) (numbers_below 0 (rows p)) in
-        all_split (λ i. i < p.frames) us n ls (subst (All (λ i. i < p.frames)) split (all_perm (λ i. i < p.frames) a once))
+        all_split (λ i. i < p.frames) us n ls (subst (AllByRecursion (λ i. i < p.frames)) split (all_perm (λ i. i < p.frames) a once))
 
     at_place : place_in n o ≡ length us
     at_place =

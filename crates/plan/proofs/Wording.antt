@@ -1,6 +1,6 @@
 -- Orders and conflicts by the test, and in the words of the subject. Assumes nothing.
 use Rattle.std.proofs.Common.{◌≡◌, ℕ, zero, suc, ◌<◌, Bool, true, false, cond, not, ◌||◌, eqb, List, [], ◌∷◌, ◌++◌, length, Some, None, Option, sym, refl, ap, ◌∙◌, subst, subst₂, arith}
-use Rattle.std.specs.List.{AllByRecursion as All}
+use Rattle.std.specs.List.{AllByRecursion}
 use Rattle.std.proofs.ByRecursion.{All-weaker}
 use Rattle.std.proofs.lemmas.Bool.{le-leb, leb-true, and_parts, and_from, false≢true}
 use Rattle.frames.specs.declared.row.Row.{Row}
@@ -85,12 +85,12 @@ module _ (m : Bank) where
       all_four (row_at (rows p) x) (rows_at p us) (rows_at p ls) (λ k l. to_one k (row_at (rows p) x) (rows_at p us) (rows_at p ls) (h k l))
 
   -- the first that passes
-  found_first : (q : ℕ → Bool) (us : List ℕ) (x : ℕ) → found q us ≡ Some x → (earlier : List ℕ) × (later : List ℕ) × (us ≡ earlier ++ (x ∷ later)) × All (λ g. q g ≡ false) earlier × (q x ≡ true)
+  found_first : (q : ℕ → Bool) (us : List ℕ) (x : ℕ) → found q us ≡ Some x → (earlier : List ℕ) × (later : List ℕ) × (us ≡ earlier ++ (x ∷ later)) × AllByRecursion (λ g. q g ≡ false) earlier × (q x ≡ true)
   found_first q [] x e = absurd (let z : ◌≡◌ {A = ℕ} 0 1 = cc in let no : ⊥ = omega arith in no)
   found_first q (u ∷ us) x e = go (q u) refl e (found_first q us x)
     where
-      go : (b : Bool) → q u ≡ b → cond b (Some u) (found q us) ≡ Some x → (found q us ≡ Some x → (earlier : List ℕ) × (later : List ℕ) × (us ≡ earlier ++ (x ∷ later)) × All (λ g. q g ≡ false) earlier × (q x ≡ true))
-          → (earlier : List ℕ) × (later : List ℕ) × (◌≡◌ {A = List ℕ} (u ∷ us) (earlier ++ (x ∷ later))) × All (λ g. q g ≡ false) earlier × (q x ≡ true)
+      go : (b : Bool) → q u ≡ b → cond b (Some u) (found q us) ≡ Some x → (found q us ≡ Some x → (earlier : List ℕ) × (later : List ℕ) × (us ≡ earlier ++ (x ∷ later)) × AllByRecursion (λ g. q g ≡ false) earlier × (q x ≡ true))
+          → (earlier : List ℕ) × (later : List ℕ) × (◌≡◌ {A = List ℕ} (u ∷ us) (earlier ++ (x ∷ later))) × AllByRecursion (λ g. q g ≡ false) earlier × (q x ≡ true)
       go true t h ih = let z : u ≡ x = cc in ([], us, ap (λ w. w ∷ us) z, tt, subst (λ w. q w ≡ true) z t)
       go false t h ih = let r = ih h in (u ∷ r.0, r.1, ap (λ l. u ∷ l) r.2, (t, r.3), r.4)
 

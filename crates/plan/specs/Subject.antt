@@ -1,6 +1,6 @@
 -- Orders and conflicts in the words of the subject. Assumes nothing.
 use Rattle.std.specs.Prelude.{◌≡◌, ℕ, ◌<◌, ◌≤◌, true, List, [], ◌∷◌, ◌++◌, map, length, Some, Option}
-use Rattle.std.specs.List.{AllByRecursion as All}
+use Rattle.std.specs.List.{AllByRecursion}
 use Rattle.frames.specs.declared.row.Row.{Row}
 use Rattle.timing.specs.Carried.{carried}
 use Rattle.shelf.specs.Numbers.{numbers, without}
@@ -44,7 +44,7 @@ TimelyFrame m p x us ls = (k : ℕ) → k < 4 → carried k (row_at (rows p) x) 
 pub data Picked (m : Bank) (p : Packing) : List ℕ → List ℕ → List ℕ → Type 0 where
   full : {bs : List ℕ} → Picked m p [] bs bs
   next : {us bs o : List ℕ} (x : ℕ) (earlier later : List ℕ) → us ≡ earlier ++ (x ∷ later)
-      → All (λ g. TimelyFrame m p g (without g us) bs → ⊥) earlier → TimelyFrame m p x (without x us) bs
+      → AllByRecursion (λ g. TimelyFrame m p g (without g us) bs → ⊥) earlier → TimelyFrame m p x (without x us) bs
       → Picked m p (without x us) (x ∷ bs) o → Picked m p us bs o
 
 -- what a planner hears of frame n in domain k: the response time of the order, within the frame's deadline

@@ -2,8 +2,8 @@
 use bus::bus::Bus;
 use plan::fault::PlanFault;
 use runs::call::{Answer, Call};
-use runs::plan::Plan;
 use runs::replay::replay;
+use runs::state::Plan;
 use signals::signal::Signal;
 use std::test::Fail;
 

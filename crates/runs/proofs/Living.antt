@@ -1,6 +1,6 @@
 -- The signals of a packing: one more, and one out. Assumes nothing.
 use Rattle.std.proofs.Common.{◌≡◌, ℕ, zero, suc, ◌+◌, ◌-◌, Bool, true, false, cond, not, eqb, List, [], ◌∷◌, ◌++◌, map, Some, filter, sym, refl, ap, ◌∙◌, subst, arith}
-use Rattle.std.specs.List.{remove, AllByRecursion as All}
+use Rattle.std.specs.List.{remove, AllByRecursion}
 use Rattle.std.proofs.lemmas.List.{map_push}
 use Rattle.std.proofs.lemmas.Bool.{ne_eqb, eqb-true}
 use Rattle.shelf.specs.Apart.{Apart}
@@ -19,7 +19,7 @@ signals_of es = map (λ e. e.signal) es
 abbrev pub others : ℕ → List Signal → List Signal
 others x ss = filter (λ s. not (eqb s.name x)) ss
 
-others_all : (x : ℕ) (es : List Entry) → All (λ y. y ≡ x → ⊥) (names es) → others x (signals_of es) ≡ signals_of es
+others_all : (x : ℕ) (es : List Entry) → AllByRecursion (λ y. y ≡ x → ⊥) (names es) → others x (signals_of es) ≡ signals_of es
 others_all x [] h = refl
 others_all x (e ∷ es) h =
     let t = ne_eqb e.signal.name x h.0 in
@@ -34,7 +34,7 @@ removed_others x j i (e ∷ es) a h n k = go (eqb e.signal.name x) refl h n k (r
         → signals_of (remove (e ∷ es) n) ≡ others x (signals_of (e ∷ es))
     go true t q zero k ih =
         let same : e.signal.name ≡ x = eqb-true _ _ t in
-        let rest = others_all x es (subst (λ y. All (λ z. z ≡ y → ⊥) (names es)) same a.0) in
+        let rest = others_all x es (subst (λ y. AllByRecursion (λ z. z ≡ y → ⊥) (names es)) same a.0) in
         sym (ap (λ b. cond (not b) (e.signal ∷ others x (signals_of es)) (others x (signals_of es))) t ∙ rest)
     go true t q (suc n) k ih = absurd (let z = some_same j i q in let no : ⊥ = omega arith in no)
     go false t q zero k ih = absurd (let w = found_within x (j + 1) i es q in let no : ⊥ = omega (arith, w.0) in no)

@@ -1,8 +1,8 @@
 -- The book that a plan in the code holds. Assumes nothing.
 use Rattle.packing.specs.Holds.{held}
 use Rattle.plan.specs.Holds.{stands_of}
-use Rattle.runs.specs.declared.plan.Plan.{Plan}
-use Rattle.runs.specs.declared.plan.Plan.TheVariants.{Open, Shut}
+use Rattle.runs.specs.declared.state.Plan.{Plan}
+use Rattle.runs.specs.declared.state.Plan.TheVariants.{Open, Shut}
 use Rattle.runs.specs.Books.{Book, draft, shut}
 
 module _ {B : Type 0} where

@@ -12,7 +12,7 @@ use Rattle.plan.specs.Subject.{Iff, HasOrder, Upheld}
 use Rattle.runs.specs.declared.call.Answer.{Answer}
 use Rattle.runs.specs.declared.call.Call.{Call}
 use Rattle.runs.specs.declared.call.Call.TheVariants.{Enter, Order}
-use Rattle.runs.specs.declared.plan.Plan.{Plan}
+use Rattle.runs.specs.declared.state.Plan.{Plan}
 use Rattle.runs.specs.Books.{Book, new, run, replies}
 use Rattle.runs.specs.Holds.{plan_bank, plan_book}
 use Rattle.runs.specs.Lives.{lives, Rides, Reaches}

@@ -3,5 +3,5 @@
 #![tactic(auto)]
 
 pub mod call;
-pub mod plan;
 pub mod replay;
+pub mod state;

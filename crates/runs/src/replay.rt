@@ -12,7 +12,7 @@ ghost use Rattle.runs.specs.Replies.{told};
 ghost use Rattle.runs.specs.Promise.{Ran};
 
 use crate::call::{Answer, Call};
-use crate::plan::Plan;
+use crate::state::Plan;
 use domains::domain::Domain;
 use frames::frame::Frame;
 use frames::row::Row;

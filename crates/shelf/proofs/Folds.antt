@@ -1,6 +1,6 @@
 -- Minima and maxima over a list. Assumes nothing.
 use Rattle.std.proofs.Common.{◌≡◌, ℕ, ◌≤◌, min, Bool, List, [], ◌∷◌, ◌++◌, Decides, refl, ⊎_elim, le_refl, arith}
-use Rattle.std.specs.List.{AllByRecursion as All}
+use Rattle.std.specs.List.{AllByRecursion}
 use Rattle.std.proofs.ByRecursion.{All-weaker, Decides-by_and}
 use Rattle.std.proofs.lemmas.Bool.{cases_lt}
 use Rattle.shelf.specs.Folds.{every, least, Least, most}
@@ -24,17 +24,17 @@ module _ {X : Type 0} (f : X → ℕ) where
   least_push m [] x = omega arith
   least_push m (y ∷ xs) x = omega (arith, least_push m xs x)
 
-  pub le_least : (n m : ℕ) (xs : List X) → n ≤ m → All (λ x. n ≤ f x) xs → n ≤ least f m xs
+  pub le_least : (n m : ℕ) (xs : List X) → n ≤ m → AllByRecursion (λ x. n ≤ f x) xs → n ≤ least f m xs
   le_least n m [] h a = h
   le_least n m (x ∷ xs) h a = omega (arith, a.0, le_least n m xs h a.1)
 
-  pub least_each : (m : ℕ) (xs : List X) → All (λ x. least f m xs ≤ f x) xs
+  pub least_each : (m : ℕ) (xs : List X) → AllByRecursion (λ x. least f m xs ≤ f x) xs
   least_each m [] = tt
   least_each m (x ∷ xs) =
       (omega arith, All-weaker (λ y. least f m xs ≤ f y) (λ y. least f m (x ∷ xs) ≤ f y) (λ y h. omega arith) xs (least_each m xs))
 
   -- the first number is none of those in the list, and not below all
-  pub least_is : (m : ℕ) (x : X) (xs : List X) → All (λ y. f y ≤ m) (x ∷ xs) → Least f (x ∷ xs) (least f m (x ∷ xs))
+  pub least_is : (m : ℕ) (x : X) (xs : List X) → AllByRecursion (λ y. f y ≤ m) (x ∷ xs) → Least f (x ∷ xs) (least f m (x ∷ xs))
   least_is m x [] a =
       record { one = x; among = ([], here refl); is = omega (arith, a.0); least = least_each m (x ∷ []) }
   least_is m x (y ∷ ys) a =
@@ -45,13 +45,13 @@ module _ {X : Type 0} (f : X → ℕ) where
       (λ l. record { one = x; among = (y ∷ ys, here refl); is = omega arith; least = h })
       (cases_lt (least f m (y ∷ ys)) (f x))
 
-  pub most_le : (n : ℕ) (xs : List X) → All (λ x. f x ≤ n) xs → most f xs ≤ n
+  pub most_le : (n : ℕ) (xs : List X) → AllByRecursion (λ x. f x ≤ n) xs → most f xs ≤ n
   most_le n [] h = omega arith
   most_le n (x ∷ xs) h = omega (arith, h.0, most_le n xs h.1)
 
-pub decides_every : {X : Type 0} (t : X → Bool) (P : X → Type 0) → ((x : X) → Decides (t x) (P x)) → (xs : List X) → Decides (every t xs) (All P xs)
+pub decides_every : {X : Type 0} (t : X → Bool) (P : X → Type 0) → ((x : X) → Decides (t x) (P x)) → (xs : List X) → Decides (every t xs) (AllByRecursion P xs)
 decides_every t P d xs = Decides-by_and t P (every t) d refl (λ _ _. refl) xs
 
-pub least_below : {X : Type 0} (f g : X → ℕ) (m : ℕ) (xs : List X) → All (λ x. f x ≤ g x) xs → least f m xs ≤ least g m xs
+pub least_below : {X : Type 0} (f g : X → ℕ) (m : ℕ) (xs : List X) → AllByRecursion (λ x. f x ≤ g x) xs → least f m xs ≤ least g m xs
 least_below f g m [] h = le_refl m
 least_below f g m (x ∷ xs) h = omega (arith, h.0, least_below f g m xs h.1)

@@ -1,7 +1,7 @@
 -- The numbers of the elements that pass, of a table and after one entry is set. Assumes nothing.
 use Rattle.std.proofs.Common.{◌≡◌, ℕ, zero, suc, ◌+◌, ◌<◌, ◌≤◌, Bool, true, false, cond, List, [], ◌∷◌, map, length, get_or, drop, set, filter, sym, refl, ap, ◌∙◌, subst, add-zero, arith}
 use lib.Seq.{set-get_or}
-use Rattle.std.specs.List.{AllByRecursion as All}
+use Rattle.std.specs.List.{AllByRecursion}
 use Rattle.std.proofs.ByRecursion.{All-weaker, all_kept_by}
 use Rattle.std.proofs.lemmas.List.{at_drop_more}
 use Rattle.std.proofs.lemmas.Bool.{eq-eqb, ne_eqb}
@@ -17,28 +17,28 @@ without_here x y xs e = simp (eq-eqb y x e)
 pub without_there : (x y : ℕ) (xs : List ℕ) → (y ≡ x → ⊥) → without x (y ∷ xs) ≡ y ∷ without x xs
 without_there x y xs e = simp (ne_eqb y x e)
 
-pub without_away : (x : ℕ) (xs : List ℕ) → All (λ y. y ≡ x → ⊥) xs → without x xs ≡ xs
+pub without_away : (x : ℕ) (xs : List ℕ) → AllByRecursion (λ y. y ≡ x → ⊥) xs → without x xs ≡ xs
 without_away x [] a = refl
 without_away x (y ∷ xs) a = without_there x y xs a.0 ∙ ap (λ l. y ∷ l) (without_away x xs a.1)
 
 pub pick_is : {x : ℕ} {xs r : List ℕ} → Pick x xs r → Apart xs → without x xs ≡ r
-pick_is {x} (here {y = y} {r = r} e) a = without_here x y r (sym e) ∙ without_away x r (subst (λ k. All (λ j. j ≡ k → ⊥) r) (sym e) a.0)
+pick_is {x} (here {y = y} {r = r} e) a = without_here x y r (sym e) ∙ without_away x r (subst (λ k. AllByRecursion (λ j. j ≡ k → ⊥) r) (sym e) a.0)
 pick_is {x} (there {y = y} {xs = xs} {r = r} p) a = without_there x y xs (λ e. all_pick (λ j. j ≡ y → ⊥) a.0 p (sym e)) ∙ ap (λ l. y ∷ l) (pick_is p a.1)
 
 pub apart_kept : (q : ℕ → Bool) (xs : List ℕ) → Apart xs → Apart (filter q xs)
 apart_kept q [] a = tt
 apart_kept q (x ∷ xs) a = elim (q x) as (λ b. Apart (cond b (x ∷ filter q xs) (filter q xs))) [ true ↦ (all_kept_by q (λ y. y ≡ x → ⊥) xs a.0, apart_kept q xs a.1) | false ↦ apart_kept q xs a.1 ]
 
-pub chosen_from : {P : Type 0} (test : P → Bool) (i : ℕ) (ps : List P) → All (λ y. i ≤ y) (chosen test i ps)
+pub chosen_from : {P : Type 0} (test : P → Bool) (i : ℕ) (ps : List P) → AllByRecursion (λ y. i ≤ y) (chosen test i ps)
 chosen_from test i [] = tt
 chosen_from test i (p ∷ ps) =
-    let h : All (λ y. i ≤ y) (chosen test (i + 1) ps) = All-weaker (λ y. i + 1 ≤ y) (λ y. i ≤ y) (λ y k. omega arith) (chosen test (i + 1) ps) (chosen_from test (i + 1) ps) in
-    elim (test p) as (λ b. All (λ y. i ≤ y) (cond b (i ∷ chosen test (i + 1) ps) (chosen test (i + 1) ps))) [ true ↦ (omega arith, h) | false ↦ h ]
+    let h : AllByRecursion (λ y. i ≤ y) (chosen test (i + 1) ps) = All-weaker (λ y. i + 1 ≤ y) (λ y. i ≤ y) (λ y k. omega arith) (chosen test (i + 1) ps) (chosen_from test (i + 1) ps) in
+    elim (test p) as (λ b. AllByRecursion (λ y. i ≤ y) (cond b (i ∷ chosen test (i + 1) ps) (chosen test (i + 1) ps))) [ true ↦ (omega arith, h) | false ↦ h ]
 
 pub chosen_apart : {P : Type 0} (test : P → Bool) (i : ℕ) (ps : List P) → Apart (chosen test i ps)
 chosen_apart test i [] = tt
 chosen_apart test i (p ∷ ps) =
-    let h : All (λ y. y ≡ i → ⊥) (chosen test (i + 1) ps) = All-weaker (λ y. i + 1 ≤ y) (λ y. y ≡ i → ⊥) (λ y k e. omega arith) (chosen test (i + 1) ps) (chosen_from test (i + 1) ps) in
+    let h : AllByRecursion (λ y. y ≡ i → ⊥) (chosen test (i + 1) ps) = All-weaker (λ y. i + 1 ≤ y) (λ y. y ≡ i → ⊥) (λ y k e. omega arith) (chosen test (i + 1) ps) (chosen_from test (i + 1) ps) in
     let k = chosen_apart test (i + 1) ps in
     elim (test p) as (λ b. Apart (cond b (i ∷ chosen test (i + 1) ps) (chosen test (i + 1) ps))) [ true ↦ (h, k) | false ↦ k ]
 
@@ -138,7 +138,7 @@ number_in i (suc n) (p ∷ ps) l =
     let e : i + 1 + n ≡ i + suc n = omega arith in
     (i ∷ h.0, there (subst (λ k. Pick k (numbers (i + 1) ps) h.0) e h.1))
 
-pub numbers_below : {P : Type 0} (i : ℕ) (ps : List P) → All (λ n. n < i + length ps) (numbers i ps)
+pub numbers_below : {P : Type 0} (i : ℕ) (ps : List P) → AllByRecursion (λ n. n < i + length ps) (numbers i ps)
 numbers_below i [] = tt
 numbers_below i (p ∷ ps) =
     (omega arith, All-weaker (λ n. n < i + 1 + length ps) (λ n. n < i + length (p ∷ ps)) (λ n l. omega arith) (numbers (i + 1) ps) (numbers_below (i + 1) ps))

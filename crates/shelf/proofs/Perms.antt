@@ -1,7 +1,7 @@
 -- What the order of a list does not change. Assumes nothing.
 use Rattle.std.proofs.Common.{◌≡◌, ℕ, suc, ◌+◌, min, max, Bool, true, false, ◌&&◌, ◌⊎◌, List, [], ◌∷◌, ◌++◌, map, reverse, length, sum_by, sym, refl, ap, ◌∙◌, subst, inl, inr, append-nil, arith}
 use mathlib.Core.List.{reverse_aux, nil≢cons}
-use Rattle.std.specs.List.{AllByRecursion as All}
+use Rattle.std.specs.List.{AllByRecursion}
 use Rattle.std.proofs.lemmas.List.Sums.{sum_by-cons}
 use Rattle.shelf.specs.Apart.{Apart}
 use Rattle.shelf.specs.Folds.{every, least, most}
@@ -51,20 +51,20 @@ module _ {X : Type 0} where
   pick_split (there {y = y} p) = let h = pick_split p in (y ∷ h.0, h.1, ap (λ l. y ∷ l) h.2)
 
   -- what holds of each element holds of one that is in the list
-  pub all_pick : (P : X → Type 0) {x : X} {xs r : List X} → All P xs → Pick x xs r → P x
+  pub all_pick : (P : X → Type 0) {x : X} {xs r : List X} → AllByRecursion P xs → Pick x xs r → P x
   all_pick P h (here e) = subst P (sym e) h.0
   all_pick P h (there p) = all_pick P h.1 p
 
-  pub all_less : (P : X → Type 0) {x : X} {xs r : List X} → All P xs → Pick x xs r → All P r
+  pub all_less : (P : X → Type 0) {x : X} {xs r : List X} → AllByRecursion P xs → Pick x xs r → AllByRecursion P r
   all_less P h (here e) = h.1
   all_less P h (there p) = (h.0, all_less P h.1 p)
 
-  pub all_perm : (P : X → Type 0) {xs ys : List X} → All P xs → Perm xs ys → All P ys
+  pub all_perm : (P : X → Type 0) {xs ys : List X} → AllByRecursion P xs → Perm xs ys → AllByRecursion P ys
   all_perm P h done = tt
   all_perm P h (next p q) = (all_pick P h p, all_perm P (all_less P h p) q)
 
-  pick_apart : {x : X} {xs r : List X} → Apart xs → Pick x xs r → All (λ z. z ≡ x → ⊥) r × Apart r
-  pick_apart a (here {r = r} e) = (subst (λ q. All (λ z. z ≡ q → ⊥) r) (sym e) a.0, a.1)
+  pick_apart : {x : X} {xs r : List X} → Apart xs → Pick x xs r → AllByRecursion (λ z. z ≡ x → ⊥) r × Apart r
+  pick_apart a (here {r = r} e) = (subst (λ q. AllByRecursion (λ z. z ≡ q → ⊥) r) (sym e) a.0, a.1)
   pick_apart a (there {y = y} p) =
       let h = pick_apart a.1 p in
       ((λ e. all_pick (λ z. z ≡ y → ⊥) a.0 p (sym e), h.0), (all_less (λ z. z ≡ y → ⊥) a.0 p, h.1))

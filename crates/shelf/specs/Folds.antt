@@ -1,6 +1,6 @@
 -- Tests, minima and maxima over a list. Assumes nothing.
 use Rattle.std.specs.Prelude.{◌≡◌, ℕ, ◌≤◌, min, max, Bool, true, ◌&&◌, List, [], ◌∷◌}
-use Rattle.std.specs.List.{AllByRecursion as All}
+use Rattle.std.specs.List.{AllByRecursion}
 use Rattle.shelf.specs.Picks.{Among}
 
 -- each element passes
@@ -18,7 +18,7 @@ pub record Least {X : Type 0} (f : X → ℕ) (xs : List X) (m : ℕ) : Type 0 w
   pub one : X
   pub among : Among one xs
   pub is : f one ≡ m
-  pub least : All (λ x. m ≤ f x) xs
+  pub least : AllByRecursion (λ x. m ≤ f x) xs
 
 -- the largest of f over the list, or 0
 abbrev pub most : {X : Type 0} → (X → ℕ) → List X → ℕ

@@ -1,6 +1,6 @@
 -- The signals of a frame: one more, one out, none. Assumes nothing.
 use Rattle.std.proofs.Common.{◌≡◌, ℕ, suc, ◌+◌, ◌<◌, true, false, cond, eqb, List, [], ◌∷◌, ◌++◌, map, length, get_or, take, drop, filter, sym, refl, ap, ◌∙◌, subst, ⊎_elim, drop-cons}
-use Rattle.std.specs.List.{remove, AllByRecursion as All}
+use Rattle.std.specs.List.{remove, AllByRecursion}
 use Rattle.std.proofs.lemmas.List.Elements.{filter-append}
 use Rattle.std.proofs.ByRecursion.{All-weaker}
 use Rattle.std.proofs.lemmas.List.{map-append, append-nil, take-append-drop, take_more}
@@ -53,16 +53,16 @@ module _ (n : ℕ) where
     riders_same q =
         ap (riders n) (take_more es i no_entry within) ∙ riders_push_other (take i es) (get_or es i no_entry) q
 
-  pub riders_none : (es : List Entry) → All (λ e. e.frame ≡ n → ⊥) es → riders n es ≡ []
+  pub riders_none : (es : List Entry) → AllByRecursion (λ e. e.frame ≡ n → ⊥) es → riders n es ≡ []
   riders_none [] h = riders_nil
   riders_none (e ∷ es) h = no_rider e es h.0 ∙ riders_none es h.1
 
   -- what holds of each entry in the frame holds of each of its signals
-  pub riders_all : (P : Signal → Type 0) (es : List Entry) → All (λ e. e.frame ≡ n → P e.signal) es → All P (riders n es)
-  riders_all P [] h = subst (All P) (sym riders_nil) tt
-  riders_all P (e ∷ es) h = ⊎_elim {C = All P (riders n (e ∷ es))}
-      (λ t. subst (All P) (sym (rider e es (eqb-true _ _ t))) (h.0 (eqb-true _ _ t), riders_all P es h.1))
-      (λ t. subst (All P) (sym (no_rider e es (eqb-false _ _ t))) (riders_all P es h.1))
+  pub riders_all : (P : Signal → Type 0) (es : List Entry) → AllByRecursion (λ e. e.frame ≡ n → P e.signal) es → AllByRecursion P (riders n es)
+  riders_all P [] h = subst (AllByRecursion P) (sym riders_nil) tt
+  riders_all P (e ∷ es) h = ⊎_elim {C = AllByRecursion P (riders n (e ∷ es))}
+      (λ t. subst (AllByRecursion P) (sym (rider e es (eqb-true _ _ t))) (h.0 (eqb-true _ _ t), riders_all P es h.1))
+      (λ t. subst (AllByRecursion P) (sym (no_rider e es (eqb-false _ _ t))) (riders_all P es h.1))
       (cases_Bool (eqb e.frame n))
 
   -- the first of them, where there is one
@@ -87,16 +87,16 @@ module _ (n : ℕ) where
         riders_removed ∙ ap (λ ss. riders n (take i es) ++ ss) (sym (no_rider (get_or es i no_entry) (drop (suc i) es) q)) ∙ sym riders_split
 
 -- each signal is in its own frame
-pub any_own : (es : List Entry) → All (λ e. any_in e.frame es ≡ true) es
+pub any_own : (es : List Entry) → AllByRecursion (λ e. any_in e.frame es ≡ true) es
 any_own [] = tt
 any_own (e ∷ es) =
     (or_left _ _ (eq-eqb e.frame e.frame refl), All-weaker (λ x. any_in x.frame es ≡ true) (λ x. any_in x.frame (e ∷ es) ≡ true) (λ x t. or_right _ _ t) es (any_own es))
 
-pub none_in : (n : ℕ) (es : List Entry) → any_in n es ≡ false → All (λ e. e.frame ≡ n → ⊥) es
+pub none_in : (n : ℕ) (es : List Entry) → any_in n es ≡ false → AllByRecursion (λ e. e.frame ≡ n → ⊥) es
 none_in n [] t = tt
 none_in n (e ∷ es) t =
     let p = or_parts (eqb e.frame n) (any_in n es) t in (eqb-false _ _ p.0, none_in n es p.1)
 
-pub none_any : (n : ℕ) (es : List Entry) → All (λ e. e.frame ≡ n → ⊥) es → any_in n es ≡ false
+pub none_any : (n : ℕ) (es : List Entry) → AllByRecursion (λ e. e.frame ≡ n → ⊥) es → any_in n es ≡ false
 none_any n [] h = refl
 none_any n (e ∷ es) h = or_from _ _ (ne_eqb _ _ h.0) (none_any n es h.1)

@@ -2,7 +2,7 @@
 use Rattle.std.proofs.Common.{◌≡◌, ℕ, suc, ◌+◌, ◌/◌, ◌%◌, ◌^◌, ◌<◌, ◌≤◌, true, ◌⊎◌, List, [], ◌∷◌, ◌++◌, length, get_or, take, drop, Decides, fold, sym, refl, ap, ◌∙◌, subst, inl, inr, ⊎_elim, arith}
 use native.Mathlib.Nat.{zero-div}
 use lib.Bits.{bit_or, or_step, or_add_and, or_lt, or_comm}
-use Rattle.std.specs.List.{AllByRecursion as All}
+use Rattle.std.specs.List.{AllByRecursion}
 use Rattle.std.proofs.lemmas.Nat.{or_shr, and_le_l}
 use Rattle.std.proofs.ByRecursion.{All-weaker}
 use Rattle.std.proofs.lemmas.List.Sums.{fold_push, sum_by_push, sum_by-cons, sum_by-append}
@@ -54,11 +54,11 @@ unfolding row_by
 fill_cons s ss = sum_by-cons (λ t. t.size) s ss
 
 -- the sender of some signals that have one
-senders : (q a : ℕ) (ss : List Signal) → a ≡ q → All (λ s. s.sender ≡ q) ss → fold (λ _ s. s.sender) a ss ≡ q
+senders : (q a : ℕ) (ss : List Signal) → a ≡ q → AllByRecursion (λ s. s.sender ≡ q) ss → fold (λ _ s. s.sender) a ss ≡ q
 senders q a [] e h = e
 senders q a (s ∷ ss) e h = senders q s.sender ss h.0 h.1
 
-pub row_sender : (q : ℕ) (s : Signal) (ss : List Signal) → All (λ t. t.sender ≡ q) (s ∷ ss) → (row_by (s ∷ ss)).sender ≡ q
+pub row_sender : (q : ℕ) (s : Signal) (ss : List Signal) → AllByRecursion (λ t. t.sender ≡ q) (s ∷ ss) → (row_by (s ∷ ss)).sender ≡ q
 unfolding row_by
 row_sender q s ss h = senders q s.sender ss h.0 h.1
 
@@ -73,7 +73,7 @@ union_ge : (d : ℕ) (ss : List Signal) → d ≤ fold (λ m s. bit_or m s.set) 
 union_ge d [] = omega arith
 union_ge d (s ∷ ss) = omega (arith, or_le d s.set, union_ge (bit_or d s.set) ss)
 
-union_le : (d : ℕ) (ss : List Signal) → d ≤ 15 → All (λ s. s.set ≤ 15) ss → fold (λ m s. bit_or m s.set) d ss ≤ 15
+union_le : (d : ℕ) (ss : List Signal) → d ≤ 15 → AllByRecursion (λ s. s.set ≤ 15) ss → fold (λ m s. bit_or m s.set) d ss ≤ 15
 union_le d [] h a = h
 union_le d (s ∷ ss) h a =
     union_le (bit_or d s.set) ss (omega (arith, or_lt 4 d s.set (omega arith) (omega (arith, a.0)))) a.1
@@ -116,8 +116,8 @@ union_from k d (s ∷ ss) t =
     (union_from k (bit_or d s.set) ss t)
 
 -- a row within the limits
-module _ (s : Signal) (ss : List Signal) (h : All LawfulSignal (s ∷ ss)) where
-  each : (P : Signal → Type 0) → ((t : Signal) → LawfulSignal t → P t) → All P (s ∷ ss)
+module _ (s : Signal) (ss : List Signal) (h : AllByRecursion LawfulSignal (s ∷ ss)) where
+  each : (P : Signal → Type 0) → ((t : Signal) → LawfulSignal t → P t) → AllByRecursion P (s ∷ ss)
   each P f = All-weaker LawfulSignal P f (s ∷ ss) h
 
   pub row_lawful : (row_by (s ∷ ss)).fill ≤ 64 → Lawful (row_by (s ∷ ss))
@@ -129,7 +129,7 @@ module _ (s : Signal) (ss : List Signal) (h : All LawfulSignal (s ∷ ss)) where
     carried = (omega (arith, h.0.named.0, or_ge 0 s.set, union_ge (bit_or 0 s.set) ss), union_le 0 (s ∷ ss) (omega arith) (each (λ t. t.set ≤ 15) (λ t l. l.named.1)));
   }
 
-  pub row_gathered : (q : ℕ) → All (λ t. t.sender ≡ q) (s ∷ ss) → Gathered (s ∷ ss) (row_by (s ∷ ss))
+  pub row_gathered : (q : ℕ) → AllByRecursion (λ t. t.sender ≡ q) (s ∷ ss) → Gathered (s ∷ ss) (row_by (s ∷ ss))
   unfolding row_by
   row_gathered q one = record {
     sender = All-weaker (λ t. t.sender ≡ q) (λ t. t.sender ≡ (row_by (s ∷ ss)).sender) (λ t e. e ∙ sym (row_sender q s ss one)) (s ∷ ss) one;

@@ -1,6 +1,6 @@
 -- What the row of a frame says of its signals. Assumes nothing.
 use Rattle.std.specs.Prelude.{◌≡◌, ℕ, true, List, sum_by}
-use Rattle.std.specs.List.{AllByRecursion as All}
+use Rattle.std.specs.List.{AllByRecursion}
 use Rattle.frames.specs.declared.row.Row.{Row}
 use Rattle.timing.specs.Carried.{in_set}
 use Rattle.shelf.specs.Folds.{Least}
@@ -14,7 +14,7 @@ Named k ss = (s : Signal) × Among s ss × (in_set k s.set ≡ true)
 -- r is the row of a frame that carries these signals, one at least
 pub record Gathered (ss : List Signal) (r : Row) : Type 0 where
   -- senders are not mixed
-  pub sender : All (λ s. s.sender ≡ r.sender) ss
+  pub sender : AllByRecursion (λ s. s.sender ≡ r.sender) ss
   pub fill : r.fill ≡ sum_by (λ s. s.size) ss
   -- one of them has the period, and none a shorter one; so there is one
   pub period : Least (λ s. s.period) ss r.period

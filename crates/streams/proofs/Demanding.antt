@@ -1,6 +1,6 @@
 -- What streams demand: it rises with the time, and with the streams. Assumes nothing.
 use Rattle.std.proofs.Common.{◌≡◌, ℕ, ◌+◌, ◌-◌, ◌*◌, ◌/◌, ◌≤◌, List, [], ◌∷◌, le_trans, le_refl, mul-le-mul_right, div-lt_iff_lt-mul, mul-le-mul_left, le-div_iff_mul-le, div-mul-le_self, arith}
-use Rattle.std.specs.List.{AllByRecursion as All}
+use Rattle.std.specs.List.{AllByRecursion}
 use Rattle.std.proofs.lemmas.Nat.{mul-le}
 use Rattle.std.proofs.lemmas.List.Sums.{sum_by-cons}
 use Rattle.shelf.specs.Picks.{Perm}
@@ -35,7 +35,7 @@ pub demand_cons : (s : Stream) (streams : List Stream) (w : ℕ) → demand (s �
 unfolding demand
 demand_cons s streams w = sum_by-cons (λ s. ceil w s.period * s.cost) s streams
 
-pub demand_mono : (streams : List Stream) → All Fit streams → (v w : ℕ) → v ≤ w → demand streams v ≤ demand streams w
+pub demand_mono : (streams : List Stream) → AllByRecursion Fit streams → (v w : ℕ) → v ≤ w → demand streams v ≤ demand streams w
 unfolding demand
 demand_mono [] fit v w h = le_refl 0
 demand_mono (s ∷ streams) fit v w h =

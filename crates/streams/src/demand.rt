@@ -1,6 +1,6 @@
 // What streams demand of a domain in a time.
 ghost use Rattle.std.specs.Prelude.{◌≡◌, ◌*◌, ◌≤◌, length};
-ghost use Rattle.std.specs.List.{AllByRecursion as All};
+ghost use Rattle.std.specs.List.{AllByRecursion};
 ghost use Rattle.streams.specs.Demands.{ceil, demand, Fit};
 
 use crate::rounding::div_up;
@@ -18,7 +18,7 @@ fn share(stream: &Stream, w: u64) -> u64
 
 // The time that the instances of all streams take that are released in the time w.
 pub fn demand_in(streams: &[Stream], w: u64) -> u64
-    requires fit { All Fit streams.now }
+    requires fit { AllByRecursion Fit streams.now }
     requires few { length streams.now ≤ 97 }
     requires soon { w ≤ 4000008000 }
     ensures is { result ≡ demand streams.now w }

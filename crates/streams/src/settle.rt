@@ -1,6 +1,6 @@
 // The smallest solution of a response time equation.
 ghost use Rattle.std.specs.Prelude.{◌≡◌, ℕ, ◌+◌, ◌≤◌, max, length};
-ghost use Rattle.std.specs.List.{AllByRecursion as All};
+ghost use Rattle.std.specs.List.{AllByRecursion};
 ghost use Rattle.shelf.specs.Times.{AtMost};
 ghost use Rattle.shelf.specs.Smallest.{solution};
 ghost use Rattle.streams.specs.Demands.{busy, horizon, Fit};
@@ -14,7 +14,7 @@ pub const HORIZON: u64 = 4_000_000_000;
 // The smallest w from `from` to the horizon with w = base + what the streams demand in w + ahead.
 // No solution is below `known`, so the search may start there.
 pub fn settle(streams: &[Stream], base: u64, ahead: u64, from: u64, known: u64) -> Option<u64>
-    requires fit { All Fit streams.now }
+    requires fit { AllByRecursion Fit streams.now }
     requires few { length streams.now ≤ 97 }
     requires small { base ≤ 100000000000 }
     requires near { ahead ≤ 8000 }

@@ -1,6 +1,6 @@
 // Figures of many streams together.
 ghost use Rattle.std.specs.Prelude.{◌≡◌, ◌≤◌, length};
-ghost use Rattle.std.specs.List.{AllByRecursion as All};
+ghost use Rattle.std.specs.List.{AllByRecursion};
 ghost use Rattle.shelf.specs.Folds.{least, most};
 ghost use Rattle.streams.specs.Demands.{Fit, total};
 
@@ -8,7 +8,7 @@ use crate::stream::Stream;
 
 // The costs of the streams together.
 pub fn total_cost(streams: &[Stream]) -> u64
-    requires fit { All Fit streams.now }
+    requires fit { AllByRecursion Fit streams.now }
     requires few { length streams.now ≤ 96 }
     ensures is { result ≡ total streams.now }
     ensures low { result ≤ 1920000000 }
@@ -33,7 +33,7 @@ pub fn least_period(first: u64, streams: &[Stream]) -> u64
 
 // The largest of the streams' costs, or 0.
 pub fn largest_cost(streams: &[Stream]) -> u64
-    requires { All Fit streams.now }
+    requires { AllByRecursion Fit streams.now }
     ensures is { result ≡ most (λ s. s.cost) streams.now }
     ensures low { result ≤ 20000000 }
 {

@@ -3,16 +3,16 @@
 
 mod busy;
 mod calls;
-mod ordering;
-mod packing;
+mod contents;
+mod outcome;
 mod truck;
 
 use anyhow::anyhow;
 use bus::bus::Bus;
 use busy::{BIT, print_busy_period};
 use calls::print_calls;
-use ordering::print_outcome;
-use packing::print_packing;
+use contents::print_packing;
+use outcome::print_outcome;
 use plan::draft::Draft;
 use truck::{Bank, Line, SCANNERS, SIGNALS, bank, signal};
 

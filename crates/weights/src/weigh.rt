@@ -1,6 +1,6 @@
 // What a frame weighs: its cost in each domain of its set, as a share of its period.
 ghost use Rattle.std.specs.Prelude.{◌≡◌, ◌≤◌, length};
-ghost use Rattle.std.specs.List.{AllByRecursion as All};
+ghost use Rattle.std.specs.List.{AllByRecursion};
 ghost use Rattle.frames.specs.Limits.{Lawful};
 ghost use Rattle.frames.specs.Records.{row_of};
 ghost use Rattle.weights.specs.Weights.{weight_in, row_weight, rows_weight};
@@ -61,7 +61,7 @@ pub fn row_weight<D: Domain>(bank: &D, row: &Row) -> u64
 
 // What the frames of the rows weigh together.
 pub fn rows_weight<D: Domain>(bank: &D, rows: &[Row]) -> u64
-    requires lawful { All Lawful rows.now }
+    requires lawful { AllByRecursion Lawful rows.now }
     requires few { length rows.now ≤ 96 }
     ensures { result ≡ rows_weight (D.cost bank.now) rows.now }
 {

@@ -1,6 +1,6 @@
 -- Figures worked by hand. Assumes nothing.
 use Rattle.std.proofs.Common.{◌≡◌, ℕ, ◌+◌, ◌-◌, ◌≤◌, true, List, [], ◌∷◌, map, Some, None, sym, refl, ap, arith}
-use Rattle.std.specs.List.{AllByRecursion as All}
+use Rattle.std.specs.List.{AllByRecursion}
 use Rattle.frames.specs.declared.row.Row.{Row}
 use Rattle.frames.specs.Limits.{Lawful, lawful}
 use Rattle.frames.specs.Payloads.{payload}
@@ -59,10 +59,10 @@ slow r = stream_by (bus_price slow_bus) r
 abbrev earlier : List Stream
 earlier = map slow before
 
-before_lawful : All Lawful before
+before_lawful : AllByRecursion Lawful before
 before_lawful = (from_lawful (frame 8 2840000) refl, (from_lawful (frame 8 3976000) refl, tt))
 
-earlier_fit : All Fit earlier
+earlier_fit : AllByRecursion Fit earlier
 earlier_fit = all_fit bus_kept slow_bus before before_lawful
 
 last_fit : Fit (slow last)
@@ -130,7 +130,7 @@ abbrev pub OneTurn : ℕ → Stream → List Stream → ℕ → ℕ → ℕ → 
 OneTurn a s us b l w r =
     (busy_load s us b 1 ≡ l) × (l ≡ busy_load s us b l) × (l ≤ horizon) × (1 ≡ ceil l s.period) × (queue_load a s us b 0 0 ≡ w) × (w ≡ queue_load a s us b 0 w) × (w ≤ horizon) × (r ≡ w + s.cost)
 
-single : (a : ℕ) (s : Stream) (us : List Stream) (b l w r : ℕ) → Fit s → All Fit us → OneTurn a s us b l w r → response_by a s us b ≡ Some r
+single : (a : ℕ) (s : Stream) (us : List Stream) (b l w r : ℕ) → Fit s → AllByRecursion Fit us → OneTurn a s us b l w r → response_by a s us b ≡ Some r
 unfolding busy_period delay instance_time
 single a s us b l w r own fit h =
     let busy_is = solution_after (busy_load s us b) 1 horizon 1 l (omega arith) (busy_up s us b own fit) (busy_starts s us b own fit) h.0 h.1 h.2 in

@@ -1,7 +1,7 @@
 -- Figures worked by hand. Assumes nothing.
 use Rattle.std.specs.Prelude.{◌≡◌, ℕ, ◌<◌, List, [], ◌∷◌, Some, None, Option}
 use Rattle.std.proofs.Common.{arith}
-use Rattle.std.specs.List.{AllByRecursion as All}
+use Rattle.std.specs.List.{AllByRecursion}
 use Rattle.frames.specs.declared.row.Row.{Row}
 use Rattle.frames.specs.Limits.{Lawful}
 use Rattle.frames.specs.Payloads.{payload}
@@ -99,7 +99,7 @@ pub record LaterInstance : Type 0 where
   pub bus : Bus
   pub frame_asked : Row
   pub above : List Row
-  pub lawful : Lawful frame_asked × All Lawful above
+  pub lawful : Lawful frame_asked × AllByRecursion Lawful above
   pub first : ℕ
   pub first_is : of_streams (bus_price bus) (bus_instance bus.arbitration 0) frame_asked above [] ≡ Some first
   pub worst : ℕ

@@ -1,6 +1,6 @@
 // The queueing delay of one instance of a busy period.
 ghost use Rattle.std.specs.Prelude.{◌≡◌, ℕ, ◌+◌, ◌*◌, ◌<◌, ◌≤◌, length, Some};
-ghost use Rattle.std.specs.List.{AllByRecursion as All};
+ghost use Rattle.std.specs.List.{AllByRecursion};
 ghost use Rattle.streams.specs.Demands.{ceil, horizon, Fit};
 ghost use Rattle.kinds.specs.KindLaws.{Own};
 ghost use Rattle.bus.specs.Buses.{bus_price, busy_period, queue_load, delay};
@@ -14,7 +14,7 @@ impl Bus {
     // It does not start before the time known, so the search begins there.
     pub(crate) fn delay_of(&self, own: Stream, above: &[Stream], b: u64, q: u64, known: u64) -> u64
         requires own { Own (bus_price self.now) own }
-        requires over { All Fit above.now }
+        requires over { AllByRecursion Fit above.now }
         requires few { length above.now ≤ 96 }
         requires blocked { b ≤ 20000000 }
         requires within { (l : ℕ) × (Some l ≡ busy_period own above.now b) × (q < ceil l own.period) }

@@ -1,6 +1,6 @@
 // What lies behind the answer of a bus: the busy period, and each of its instances.
 ghost use Rattle.std.specs.Prelude.{◌≡◌, ◌≤◌, length};
-ghost use Rattle.std.specs.List.{AllByRecursion as All};
+ghost use Rattle.std.specs.List.{AllByRecursion};
 ghost use Rattle.streams.specs.Demands.{Fit};
 ghost use Rattle.domains.specs.Asked.{asked};
 ghost use Rattle.kinds.specs.KindLaws.{Own};
@@ -39,8 +39,8 @@ impl Bus {
 
     fn instance_of(&self, own: Stream, above: &[Stream], below: &[Stream], q: u64) -> Option<u64>
         requires own { Own (bus_price self.now) own }
-        requires over { All Fit above.now }
-        requires under { All Fit below.now }
+        requires over { AllByRecursion Fit above.now }
+        requires under { AllByRecursion Fit below.now }
         requires few { length above.now ≤ 96 }
         ensures { result ≡ bus_instance self.now.arbitration q own above.now below.now }
     {

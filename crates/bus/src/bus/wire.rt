@@ -1,6 +1,6 @@
 // The CAN FD bus as a domain.
 ghost use Rattle.std.specs.Prelude.{◌≡◌, ◌≤◌, [], ◌∷◌, length};
-ghost use Rattle.std.specs.List.{AllByRecursion as All};
+ghost use Rattle.std.specs.List.{AllByRecursion};
 ghost use Rattle.streams.specs.Demands.{Fit};
 ghost use Rattle.domains.specs.Faults.{Made, limited};
 ghost use Rattle.kinds.specs.KindLaws.{Own};
@@ -54,8 +54,8 @@ impl Kind for Bus {
     // Every instance of the busy period counts: a later one can be later than the first.
     fn time(&self, own: Stream, above: &[Stream], below: &[Stream]) -> Option<u64>
         requires own { Own (bus_price self.now) own }
-        requires over { All Fit above.now }
-        requires under { All Fit below.now }
+        requires over { AllByRecursion Fit above.now }
+        requires under { AllByRecursion Fit below.now }
         requires few { length above.now ≤ 96 }
         ensures is { result ≡ bus_time self.now.arbitration own above.now below.now }
         ensures words { BusAnswer self.now.arbitration own above.now (blocking below.now) result }

@@ -1,6 +1,6 @@
 // The gateway processor as a domain.
 ghost use Rattle.std.specs.Prelude.{◌≡◌, ◌≤◌, [], ◌∷◌, length};
-ghost use Rattle.std.specs.List.{AllByRecursion as All};
+ghost use Rattle.std.specs.List.{AllByRecursion};
 ghost use Rattle.streams.specs.Demands.{Fit};
 ghost use Rattle.domains.specs.Faults.{Made, limited};
 ghost use Rattle.kinds.specs.Rows.{one, alone_cost, alone_response};
@@ -45,7 +45,7 @@ impl Kind for Gateway {
     // A smallest solution, or none up to the horizon: frames below it do not matter.
     fn time(&self, own: Stream, above: &[Stream], below: &[Stream]) -> Option<u64>
         requires own { Fit own }
-        requires over { All Fit above.now }
+        requires over { AllByRecursion Fit above.now }
         requires few { length above.now ≤ 96 }
         ensures is { result ≡ relayed own above.now below.now }
         ensures smallest { Relayed own above.now result }

@@ -1,7 +1,7 @@
 use Rattle.std.proofs.Common.{◌≡◌, ℕ, ◌+◌, ◌-◌, ◌≤◌, List, ◌∷◌, length, take, sym, ap, ◌∙◌, subst, add-zero, arith}
 use mathlib.Core.Path.{fun_ext}
 use native.Mathlib.Nat.{sub-zero}
-use Rattle.std.specs.List.{AllByRecursion as All}
+use Rattle.std.specs.List.{AllByRecursion}
 use Rattle.shelf.specs.Smallest.{solution}
 use Rattle.streams.specs.declared.stream.Stream.{Stream}
 use Rattle.streams.specs.Demands.{busy, demand, horizon, Fit}
@@ -17,7 +17,7 @@ pub settle-requires : goal.settle-requires
 settle-requires c =
     let queue = part c.queue_of-queue.result (c.args.own ∷ c.args.above.now) _ c.queue_of-queue.ensures in
     record {
-      fit = subst (All Fit) (sym queue) (c.requires.own, c.requires.over);
+      fit = subst (AllByRecursion Fit) (sym queue) (c.requires.own, c.requires.over);
       few = omega (arith, ap length queue, c.requires.few);
       small = omega (arith, c.requires.blocked);
       near = omega arith;

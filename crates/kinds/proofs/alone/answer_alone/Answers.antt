@@ -1,5 +1,5 @@
 use Rattle.std.proofs.Common.{Bool, cond, length, None, sym, ap, ◌∙◌, subst, arith}
-use Rattle.std.specs.List.{AllByRecursion as All}
+use Rattle.std.specs.List.{AllByRecursion}
 use Rattle.std.proofs.lemmas.Bool.{cond-false, eq-eqb, ne_eqb}
 use Rattle.streams.specs.Demands.{Fit}
 use Rattle.domains.specs.Asked.{asked}
@@ -23,8 +23,8 @@ time-requires g c =
     let laws = g.met.K.Kind.kept in
     record {
       own = seen_own laws d _ _ _ v seen;
-      over = subst (All Fit) (sym c.as_slice.ensures) (seen_above laws d _ _ _ v seen);
-      under = subst (All Fit) (sym c.as_slice-2.ensures) (seen_below laws d _ _ _ v seen);
+      over = subst (AllByRecursion Fit) (sym c.as_slice.ensures) (seen_above laws d _ _ _ v seen);
+      under = subst (AllByRecursion Fit) (sym c.as_slice-2.ensures) (seen_below laws d _ _ _ v seen);
       few = omega (arith, ap length c.as_slice.ensures, listed_few v.above);
       less = omega (arith, ap length c.as_slice-2.ensures, listed_few v.below);
     }

@@ -1,5 +1,5 @@
 use Rattle.std.proofs.Common.{length, sym, ap, ◌∙◌, subst, arith}
-use Rattle.std.specs.List.{AllByRecursion as All}
+use Rattle.std.specs.List.{AllByRecursion}
 use Rattle.std.proofs.lemmas.List.FromFn.{length-map-range_with_len}
 use Rattle.frames.specs.Limits.{Lawful}
 use Rattle.weights.specs.Weights.{rows_weight}
@@ -13,7 +13,7 @@ rows_weight-requires g c =
     let p = held c.args.tables.now in
     let h = to_sound p c.args.tables.now.ok in
     record {
-      lawful = subst (All Lawful) (sym c.frame_rows.ensures) (lawful_rows p h.frames);
+      lawful = subst (AllByRecursion Lawful) (sym c.frame_rows.ensures) (lawful_rows p h.frames);
       few = omega (arith, ap length c.frame_rows.ensures, length-map-range_with_len (λ k. row p k) 0 p.frames, h.room);
     }
 

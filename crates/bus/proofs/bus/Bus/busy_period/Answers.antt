@@ -1,5 +1,5 @@
 use Rattle.std.proofs.Common.{length, sym, ap, ◌∙◌, subst, arith}
-use Rattle.std.specs.List.{AllByRecursion as All}
+use Rattle.std.specs.List.{AllByRecursion}
 use Rattle.streams.specs.Demands.{Fit}
 use Rattle.kinds.proofs.Gathering.{listed_few}
 use Rattle.kinds.proofs.Seeing.{seen_own, seen_above, seen_below, seen_is}
@@ -13,7 +13,7 @@ returns-in_err-view c = c.from_residual.ensures ∙ c.in_err-view.ensures _
 
 pub largest_cost-requires : goal.largest_cost-requires
 largest_cost-requires c =
-    subst (All Fit) (sym c.as_slice-2.ensures) (seen_below bus_kept c.args.self.now _ _ _ c.in_ok-view.view c.in_ok-view.ensures)
+    subst (AllByRecursion Fit) (sym c.as_slice-2.ensures) (seen_below bus_kept c.args.self.now _ _ _ c.in_ok-view.view c.in_ok-view.ensures)
 
 pub busy_from-requires : goal.busy_from-requires
 busy_from-requires c =
@@ -22,7 +22,7 @@ busy_from-requires c =
     let seen = c.in_ok-view.ensures in
     record {
       own = (seen_own bus_kept d _ _ _ v seen).fit;
-      over = subst (All Fit) (sym c.as_slice.ensures) (seen_above bus_kept d _ _ _ v seen);
+      over = subst (AllByRecursion Fit) (sym c.as_slice.ensures) (seen_above bus_kept d _ _ _ v seen);
       few = omega (arith, ap length c.as_slice.ensures, listed_few v.above);
       blocked = omega (arith, c.largest_cost.ensures.low);
     }

@@ -1,5 +1,5 @@
 use Rattle.std.proofs.Common.{length, sym, ap, ◌∙◌, subst, arith}
-use Rattle.std.specs.List.{AllByRecursion as All}
+use Rattle.std.specs.List.{AllByRecursion}
 use Rattle.streams.specs.Demands.{Fit}
 use Rattle.kinds.proofs.Gathering.{listed_few}
 use Rattle.kinds.proofs.Seeing.{seen_own, seen_above, seen_below, seen_is}
@@ -17,8 +17,8 @@ instance_of-requires c =
     let seen = c.in_ok-view.ensures in
     record {
       own = seen_own bus_kept d _ _ _ v seen;
-      over = subst (All Fit) (sym c.as_slice.ensures) (seen_above bus_kept d _ _ _ v seen);
-      under = subst (All Fit) (sym c.as_slice-2.ensures) (seen_below bus_kept d _ _ _ v seen);
+      over = subst (AllByRecursion Fit) (sym c.as_slice.ensures) (seen_above bus_kept d _ _ _ v seen);
+      under = subst (AllByRecursion Fit) (sym c.as_slice-2.ensures) (seen_below bus_kept d _ _ _ v seen);
       few = omega (arith, ap length c.as_slice.ensures, listed_few v.above);
     }
 
