@@ -20,8 +20,9 @@ returns-then-next-w c =
 pub loop-w-preserved : goal.loop-w-preserved
 loop-w-preserved c =
     let x = c.args.ahead in
-    let d = demand c.args.streams.now in
-    let up : (v w : ℕ) → v ≤ w → d (v + x) ≤ d (w + x) = λ v w h. demand_mono c.args.streams.now c.requires.fit (v + x) (w + x) (omega arith) in
+    let streams = c.args.streams.now in
+    let d = demand streams in
+    let up : (v w : ℕ) → v ≤ w → d (v + x) ≤ d (w + x) = λ v w h. demand_mono streams c.requires.fit (v + x) (w + x) (omega arith) in
     let h : c.demand_in.result ≡ d (c.loop-w.w + x) = c.demand_in.ensures.is in
     let inv = c.loop-w.invariant in
     let next : ℕ = c.args.base + c.demand_in.result in
