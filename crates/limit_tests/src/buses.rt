@@ -20,7 +20,7 @@ fn row(period: u64) -> Row {
     }
 }
 
-// As in the README: a bus, a gateway and a link. The second frame is not sent over the link.
+// The bank of the README: a bus, a gateway and a link. The second frame is not sent over the link.
 #[test]
 fn frames_in_order_of_priority(rt: HostRuntime) -> Result<(), Fail> {
     let bank = Pair::new(
