@@ -5,9 +5,11 @@ ghost use Rattle.frames.specs.Payloads.{payload};
 ghost use Rattle.domains.specs.Asked.{asked};
 ghost use Rattle.domains.specs.Duties.{Duties};
 
-use crate::place::Place;
+use crate::question::Question;
 use frames::frame::Frame;
-use frames::row::Row;
+
+// A bank has at most four domains.
+pub const MOST_DOMAINS: usize = 4;
 
 pub trait Domain {
     // How many domains there are, numbered from 0.
@@ -26,9 +28,9 @@ pub trait Domain {
     fn cost(&self, k: usize, frame: &Frame) -> u64
         ensures { result ≡ cost self.now k (payload frame.now.fill) };
 
-    // How late frame f of the rows can be in domain k, with the others where the places say.
-    fn answer(&self, k: usize, rows: &[Row], places: &[Place], f: usize) -> Option<u64>
-        ensures { result ≡ asked (response self.now k) rows.now places.now f };
+    // How late the frame asked about can be in domain k.
+    fn answer(&self, k: usize, question: &Question<'_>) -> Option<u64>
+        ensures { result ≡ asked (response self.now k) question.now.rows.now question.now.places.now question.now.frame };
 
     // What each kind owes.
     ghost duties: { Duties count cost response };

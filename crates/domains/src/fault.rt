@@ -2,6 +2,9 @@
 ghost use Rattle.std.specs.Prelude.{◌≡◌};
 ghost use Rattle.domains.specs.Faults.{domain_told};
 
+use std::error::Error;
+use std::fmt;
+
 #[derive(Clone, Copy, PartialEq, Eq, Debug)]
 pub enum DomainFault {
     // The first of its figures is outside its limits.
@@ -21,3 +24,14 @@ impl DomainFault {
         }
     }
 }
+
+impl fmt::Display for DomainFault {
+    fn fmt<W: fmt::Write>(&self, f: &mut fmt::Formatter<W>) -> fmt::Result {
+        f.write_str(match self {
+            DomainFault::FirstFigure => "the first figure of a domain is outside its limits",
+            DomainFault::SecondFigure => "the second figure of a domain is outside its limits",
+        })
+    }
+}
+
+impl Error for DomainFault {}

@@ -8,3 +8,4 @@ pub mod figure;
 pub mod laws;
 pub mod pair;
 pub mod place;
+pub mod question;

@@ -3,19 +3,15 @@ ghost use Rattle.std.specs.Prelude.{◌≡◌, None};
 ghost use Rattle.domains.specs.Pairs.{pair_count, by_number};
 ghost use Rattle.domains.specs.Pairing.{pair_duties};
 
-use crate::domain::Domain;
-use crate::place::Place;
+use crate::domain::{Domain, MOST_DOMAINS};
+use crate::question::Question;
 use frames::frame::Frame;
-use frames::row::Row;
 
 #[derive(Clone, Copy)]
 pub struct Pair<A, B> {
     first: A,
     second: B,
 }
-
-// A bank has at most four domains.
-const MOST: usize = 4;
 
 impl<A: Domain, B: Domain> Pair<A, B> {
     pub fn new(first: A, second: B) -> Pair<A, B>
@@ -36,11 +32,11 @@ impl<A: Domain, B: Domain> Domain for Pair<A, B> {
     ghost duties = { pair_duties (λ p. p.first) (λ p. p.second) A.Domain.duties B.Domain.duties };
 
     fn count(&self) -> usize {
-        (self.first.count() + self.second.count()).min(MOST)
+        (self.first.count() + self.second.count()).min(MOST_DOMAINS)
     }
 
     fn cost(&self, k: usize, frame: &Frame) -> u64 {
-        if k >= MOST {
+        if k >= MOST_DOMAINS {
             return 0;
         }
         let n = self.first.count();
@@ -51,15 +47,15 @@ impl<A: Domain, B: Domain> Domain for Pair<A, B> {
         }
     }
 
-    fn answer(&self, k: usize, rows: &[Row], places: &[Place], f: usize) -> Option<u64> {
-        if k >= MOST {
+    fn answer(&self, k: usize, question: &Question<'_>) -> Option<u64> {
+        if k >= MOST_DOMAINS {
             return None;
         }
         let n = self.first.count();
         if k < n {
-            self.first.answer(k, rows, places, f)
+            self.first.answer(k, question)
         } else {
-            self.second.answer(k - n, rows, places, f)
+            self.second.answer(k - n, question)
         }
     }
 }

@@ -1,23 +1,11 @@
--- The payload of a fill: the walk through the rising sizes finds the smallest that fits. Assumes nothing.
+-- The payload of a fill: the first of the rising sizes that is not below it is the smallest that fits. Assumes nothing.
 use Rattle.std.proofs.Common.{◌≡◌, ℕ, ◌+◌, ◌<◌, ◌≤◌, Bool, true, false, cond, ◌&&◌, eqb, leb, List, [], ◌∷◌, length, get_or, drop, is_some, Some, None, Decides, Option, sym, refl, ap, ◌∙◌, subst, subst₂, ⊎_elim, le_trans, le_refl, arith}
-use Rattle.std.specs.List.{AllByRecursion}
+use Rattle.std.specs.List.{AllByRecursion, find}
 use Rattle.std.proofs.lemmas.List.{at_drop_more}
 use Rattle.std.proofs.lemmas.Bool.{cond-true, cond-false, or_cases, or_left, or_right, eqb-true, eq-eqb, le-leb, lt-leb, leb-true, leb-false, and_parts, and_from, cases_lt}
 use Rattle.shelf.specs.Smallest.{Smallest, smallest}
 use Rattle.shelf.proofs.Solutions.{smallest_is, smallest_unique}
 use Rattle.frames.specs.Payloads.{sizes, one_of, Fits, or_full, payload}
-
--- the first of a list that is not below n
-abbrev pub walk : List ℕ → ℕ → Option ℕ
-walk [] n = None
-walk (x ∷ xs) n = cond (leb n x) (Some x) (walk xs n)
-
-module _ (xs : List ℕ) (i n : ℕ) (within : i < length xs) where
-  pub walk_here : n ≤ get_or xs i 0 → walk (drop i xs) n ≡ Some (get_or xs i 0)
-  walk_here h = at_drop_more (λ l. walk l n) xs i 0 within ∙ cond-true _ _ _ (le-leb _ _ h)
-
-  pub walk_on : get_or xs i 0 < n → walk (drop i xs) n ≡ walk (drop (i + 1) xs) n
-  walk_on h = at_drop_more (λ l. walk l n) xs i 0 within ∙ cond-false _ _ _ (lt-leb _ _ h)
 
 -- each number is no more than those behind it
 abbrev Rising : List ℕ → Type 0
@@ -33,9 +21,10 @@ all_one_of P (x ∷ xs) a s e =
 abbrev FitsIn : List ℕ → ℕ → ℕ → Type 0
 FitsIn xs n s = (one_of s xs ≡ true) × (n ≤ s)
 
-walk_is : (xs : List ℕ) (n : ℕ) → Rising xs → AllByRecursion (λ x. x ≤ 64) xs → Smallest (FitsIn xs n) 0 64 (walk xs n)
-walk_is [] n r a = λ v l h p. let e = p.0 in let z : ◌≡◌ {A = ℕ} 0 1 = cc in absurd (omega arith)
-walk_is (x ∷ xs) n r a = by (leb n x) refl (walk xs n) (walk_is xs n r.1 a.1)
+-- the first of a rising list that is not below n is the smallest
+first_is : (xs : List ℕ) (n : ℕ) → Rising xs → AllByRecursion (λ x. x ≤ 64) xs → Smallest (FitsIn xs n) 0 64 (find (λ x. leb n x) xs)
+first_is [] n r a = λ v l h p. let e = p.0 in let z : ◌≡◌ {A = ℕ} 0 1 = cc in absurd (omega arith)
+first_is (x ∷ xs) n r a = by (leb n x) refl (find (λ y. leb n y) xs) (first_is xs n r.1 a.1)
   where
     behind : x < n → (v : ℕ) → FitsIn (x ∷ xs) n v → FitsIn xs n v
     behind h v p =
@@ -53,9 +42,9 @@ walk_is (x ∷ xs) n r a = by (leb n x) refl (walk xs n) (walk_is xs n r.1 a.1)
     by true e o s = let h = leb-true n x e in (omega arith, a.0, (or_left (eqb x x) (one_of x xs) (eq-eqb x x refl), h), λ v l m p. first h v m p)
     by false e o s = rest (leb-false n x e) o s
 
-pub walk_fits : (n : ℕ) → Smallest (Fits n) 0 64 (walk sizes n)
-walk_fits n =
-    walk_is sizes n
+pub find_fits : (n : ℕ) → Smallest (Fits n) 0 64 (find (λ s. leb n s) sizes)
+find_fits n =
+    first_is sizes n
     (omega arith, (omega arith, (omega arith, (omega arith, (omega arith, (omega arith, (omega arith, (omega arith, (omega arith, (omega arith, (omega arith, (omega arith, (omega arith, (omega arith, (omega arith, (omega arith, tt))))))))))))))))
     (omega arith)
 
@@ -96,4 +85,4 @@ fits_mono n m h (Some w) (Some v) a b =
 
 pub payload_mono : (n m : ℕ) → n ≤ m → payload n ≤ payload m
 payload_mono n m h =
-    subst₂ ◌≤◌ (payload_is n (walk sizes n) (walk_fits n)) (payload_is m (walk sizes m) (walk_fits m)) (fits_mono n m h (walk sizes n) (walk sizes m) (walk_fits n) (walk_fits m))
+    subst₂ ◌≤◌ (payload_is n (find (λ s. leb n s) sizes) (find_fits n)) (payload_is m (find (λ s. leb m s) sizes) (find_fits m)) (fits_mono n m h (find (λ s. leb n s) sizes) (find (λ s. leb m s) sizes) (find_fits n) (find_fits m))

@@ -1,11 +1,13 @@
 -- The limits of a frame, as a fact and as a test. Assumes nothing.
-use Rattle.std.proofs.Common.{◌≡◌, true, false, Some, None, Decides, subst, ⊎_elim, arith}
+use Rattle.std.proofs.Common.{◌≡◌, true, false, Ok, Err, Decides, subst, ⊎_elim, arith}
 use Rattle.std.proofs.lemmas.Bool.{cases_Bool}
 use Rattle.std.proofs.lemmas.Bool.Decides.{nat_tests}
+use Rattle.frames.specs.declared.fault.RowFault.{RowFault}
+use Rattle.frames.specs.declared.fault.RowFault.TheVariants.{Fill, Period, Deadline, Set}
 use Rattle.frames.specs.declared.row.Row.{Row}
 use Rattle.frames.specs.declared.frame.Frame.{Frame}
 use Rattle.frames.specs.Limits.{Lawful, lawful}
-use Rattle.frames.specs.Records.{row_of, Checked}
+use Rattle.frames.specs.Records.{row_of, Breaks, Checked}
 
 pub lawful_from : (r : Row) → Lawful r → lawful r ≡ true
 lawful_from r h = grind (arith, nat_tests)
@@ -19,9 +21,16 @@ decides_lawful r = (from_lawful r, lawful_from r)
 pub lawful_frame : (f : Frame) → Lawful (row_of f)
 lawful_frame f = record { filled = f.filled; paced = f.paced; timely = f.timely; carried = f.carried }
 
--- what the check of a row tells
-pub checked_none : (r : Row) → Checked r None → lawful r ≡ false
-checked_none r h = ⊎_elim {C = lawful r ≡ false} (λ e. absurd (h (from_lawful r e))) (λ e. e) (cases_Bool (lawful r))
+-- a row that breaks a limit is outside the limits
+breaks_unlawful : (r : Row) (e : RowFault) → Breaks r e → Lawful r → ⊥
+breaks_unlawful r Fill b h = b h.filled
+breaks_unlawful r Period b h = b.1 h.paced
+breaks_unlawful r Deadline b h = b.2 h.timely
+breaks_unlawful r Set b h = b.3 h.carried
 
-pub checked_some : (r : Row) (f : Frame) → Checked r (Some f) → lawful r ≡ true
-checked_some r f h = subst (λ (x : Row). lawful x ≡ true) h (lawful_from (row_of f) (lawful_frame f))
+-- what the check of a row tells
+pub checked_err : (r : Row) (e : RowFault) → Checked r (Err e) → lawful r ≡ false
+checked_err r e b = ⊎_elim {C = lawful r ≡ false} (λ t. absurd (breaks_unlawful r e b (from_lawful r t))) (λ t. t) (cases_Bool (lawful r))
+
+pub checked_ok : (r : Row) (f : Frame) → Checked r (Ok f) → lawful r ≡ true
+checked_ok r f h = subst (λ (x : Row). lawful x ≡ true) h (lawful_from (row_of f) (lawful_frame f))

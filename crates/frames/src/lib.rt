@@ -2,6 +2,7 @@
 // It knows of no domain and no plan. A record keeps the limits of a frame as an invariant of its own fields.
 #![tactic(auto)]
 
+pub mod fault;
 pub mod frame;
 pub mod payload;
 pub mod row;

@@ -1,5 +1,5 @@
 -- Picking rows at a place, one more at a time. Assumes nothing.
-use Rattle.std.proofs.Common.{◌≡◌, ℕ, zero, suc, ◌+◌, ◌<◌, ◌≤◌, Bool, true, false, cond, List, [], ◌∷◌, ◌++◌, map, length, get_or, take, sym, refl, ap, ◌∙◌, le_of_suc-le-suc, not-suc-le-zero, add-one, arith, length-append, length-take}
+use Rattle.std.proofs.Common.{◌≡◌, ℕ, zero, suc, ◌+◌, ◌<◌, ◌≤◌, Bool, true, false, cond, List, [], ◌∷◌, ◌++◌, map, length, get_or, take, sym, refl, ap, ◌∙◌, le_of_suc-le-suc, not-suc-le-zero, add-one, arith, length-append}
 use Rattle.std.proofs.lemmas.List.{append-nil, map-append}
 use Rattle.std.proofs.lemmas.Bool.{cond-true, cond-false, and_left, and_right, and_parts, and_from}
 use Rattle.frames.specs.declared.row.Row.{Row}
@@ -7,9 +7,7 @@ use Rattle.frames.specs.Limits.{lawful}
 use Rattle.shelf.specs.Folds.{every}
 use Rattle.streams.specs.declared.stream.Stream.{Stream}
 use Rattle.domains.specs.Asked.{picked, no_row}
-use Rattle.kinds.specs.declared.table.Streams.{Streams}
 use Rattle.kinds.specs.Rows.{stream_by}
-use Rattle.kinds.specs.Tables.{listed}
 
 module _ {X : Type 0} where
   at_head : (b : Bool) (x : X) (ys zs : List X) → cond b (x ∷ (ys ++ zs)) (ys ++ zs) ≡ cond b (x ∷ ys) ys ++ zs
@@ -67,6 +65,3 @@ module _ (price : ℕ → ℕ) (t : ℕ → Bool) (rows : List Row) where
           ok = ap (every lawful) more ∙ every_push lawful (picked t (take i rows)) r inv.ok ok;
           streams = ap (λ l. l ++ (stream_by price r ∷ [])) inv.streams ∙ sym (map-append (stream_by price) (picked t (take i rows)) (r ∷ [])) ∙ ap (map (stream_by price)) (sym more);
         }
-
-pub listed_few : (s : Streams) → length (listed s) ≤ 96
-listed_few s = simp length-take (omega (arith, s.few))

@@ -3,10 +3,10 @@ use Rattle.std.specs.Prelude.{◌≡◌, ℕ, true, false, List, map, Some, None
 use Rattle.frames.specs.declared.row.Row.{Row}
 use Rattle.frames.specs.Limits.{lawful}
 use Rattle.shelf.specs.Folds.{every}
-use Rattle.kinds.specs.declared.table.Streams.{Streams}
+use Rattle.arrayvec.specs.ArrayVec.{ArrayVec}
+use Rattle.streams.specs.declared.stream.Stream.{Stream}
 use Rattle.kinds.specs.Rows.{stream_by}
-use Rattle.kinds.specs.Tables.{listed}
 
-abbrev pub Gathered : (ℕ → ℕ) → List Row → Option Streams → Type 0
-Gathered price rows (Some s) = (every lawful rows ≡ true) × (listed s ≡ map (stream_by price) rows)
+abbrev pub Gathered : (ℕ → ℕ) → List Row → Option (ArrayVec Stream) → Type 0
+Gathered price rows (Some s) = (every lawful rows ≡ true) × (s.items ≡ map (stream_by price) rows)
 Gathered price rows None = every lawful rows ≡ false

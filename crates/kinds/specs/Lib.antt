@@ -2,4 +2,3 @@ pub mod Gathered
 pub mod KindLaws
 pub mod Looked
 pub mod Rows
-pub mod Tables

@@ -6,9 +6,8 @@ ghost use Rattle.kinds.specs.Rows.{alone_cost, alone_response};
 
 use crate::kind::Kind;
 use crate::look::look;
-use domains::place::Place;
+use domains::question::Question;
 use frames::frame::Frame;
-use frames::row::Row;
 
 pub fn cost_alone<K: Kind>(kind: &K, k: usize, frame: &Frame) -> u64
     ensures { result ≡ alone_cost K.price kind.now k (payload frame.now.fill) }
@@ -20,18 +19,12 @@ pub fn cost_alone<K: Kind>(kind: &K, k: usize, frame: &Frame) -> u64
     }
 }
 
-pub fn answer_alone<K: Kind>(
-    kind: &K,
-    k: usize,
-    rows: &[Row],
-    places: &[Place],
-    f: usize,
-) -> Option<u64>
-    ensures { result ≡ asked (alone_response K.price K.time kind.now k) rows.now places.now f }
+pub fn answer_alone<K: Kind>(kind: &K, k: usize, question: &Question<'_>) -> Option<u64>
+    ensures { result ≡ asked (alone_response K.price K.time kind.now k) question.now.rows.now question.now.places.now question.now.frame }
 {
     if k != 0 {
         return None;
     }
-    let view = look(kind, rows, places, f)?;
-    kind.time(view.own, view.above.as_slice(), view.below.as_slice())
+    let look = look(kind, question)?;
+    kind.time(&look.view())
 }

@@ -1,41 +1,16 @@
 // The streams of the rows that stand at one place to the frame asked about.
 ghost use Rattle.std.specs.Prelude.{◌≡◌, ◌≤◌, length};
 ghost use Rattle.frames.specs.Records.{row_of};
-ghost use Rattle.domains.specs.Asked.{same, stance, standing};
+ghost use Rattle.domains.specs.Asked.{standing};
 ghost use Rattle.kinds.specs.Rows.{stream_by};
 ghost use Rattle.kinds.specs.Gathered.{Gathered};
 
 use crate::kind::Kind;
-use crate::table::Streams;
+use arrayvec::ArrayVec;
 use domains::place::Place;
+use domains::question::Question;
 use frames::frame::Frame;
-use frames::row::Row;
 use streams::stream::Stream;
-
-fn same_place(a: Place, b: Place) -> bool
-    ensures { result ≡ same a b }
-{
-    match (a, b) {
-        (Place::Above, Place::Above) => true,
-        (Place::Below, Place::Below) => true,
-        (Place::Absent, Place::Absent) => true,
-        _ => false,
-    }
-}
-
-// Where frame i stands to frame f: itself, and whoever is not told of, is absent.
-fn place_of(places: &[Place], f: usize, i: usize) -> Place
-    ensures { result ≡ stance places.now f i }
-{
-    if i == f {
-        return Place::Absent;
-    }
-    if i < places.len() {
-        places[i]
-    } else {
-        Place::Absent
-    }
-}
 
 // A frame as a kind sees it.
 pub(crate) fn stream_of<K: Kind>(kind: &K, frame: &Frame) -> Stream
@@ -50,18 +25,16 @@ pub(crate) fn stream_of<K: Kind>(kind: &K, frame: &Frame) -> Stream
 // The streams of the rows at the place wanted; none where one of these rows is outside the limits of a record.
 pub(crate) fn gather<K: Kind>(
     kind: &K,
-    rows: &[Row],
-    places: &[Place],
-    f: usize,
+    question: &Question<'_>,
     wanted: Place,
-) -> Option<Streams>
-    requires { length rows.now ≤ 96 }
-    ensures { Gathered (K.price kind.now) (standing wanted rows.now places.now f) result }
+) -> Option<ArrayVec<Stream, 96>>
+    requires { length question.now.rows.now ≤ 96 }
+    ensures { Gathered (K.price kind.now) (standing wanted question.now.rows.now question.now.places.now question.now.frame) result }
 {
-    let mut found = Streams::none();
-    for i in 0..rows.len() {
-        if same_place(place_of(places, f, i), wanted) {
-            let Some(frame) = Frame::of(&rows[i]) else {
+    let mut found = ArrayVec::new();
+    for (i, row) in question.rows.iter().enumerate() {
+        if question.stance(i) == wanted {
+            let Ok(frame) = Frame::try_from(*row) else {
                 return None;
             };
             found.push(stream_of(kind, &frame));

@@ -1,11 +1,9 @@
 // A kind of domain, by what it makes of streams.
-ghost use Rattle.std.specs.Prelude.{◌≡◌, ℕ, ◌≤◌, List, length, Option};
-ghost use Rattle.std.specs.List.{AllByRecursion};
+ghost use Rattle.std.specs.Prelude.{◌≡◌, ℕ, List, Option};
 ghost use Rattle.streams.specs.declared.stream.Stream.{Stream};
-ghost use Rattle.streams.specs.Demands.{Fit};
 ghost use Rattle.kinds.specs.KindLaws.{KindLaws, Own};
 
-use streams::stream::Stream;
+use crate::view::View;
 
 pub trait Kind {
     // The time that a payload takes.
@@ -17,13 +15,9 @@ pub trait Kind {
     fn price(&self, payload: u8) -> u64
         ensures { result ≡ price self.now payload };
 
-    fn time(&self, own: Stream, above: &[Stream], below: &[Stream]) -> Option<u64>
-        requires own { Own (price self.now) own }
-        requires over { AllByRecursion Fit above.now }
-        requires under { AllByRecursion Fit below.now }
-        requires few { length above.now ≤ 96 }
-        requires less { length below.now ≤ 96 }
-        ensures { result ≡ time self.now own above.now below.now };
+    fn time(&self, view: &View<'_>) -> Option<u64>
+        requires { Own (price self.now) view.now.own }
+        ensures { result ≡ time self.now view.now.own view.now.above.streams.now view.now.below.streams.now };
 
     // The duties, for streams.
     ghost kept: { KindLaws price time };

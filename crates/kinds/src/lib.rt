@@ -6,5 +6,4 @@ pub mod alone;
 mod gather;
 pub mod kind;
 pub mod look;
-pub mod table;
 pub mod view;

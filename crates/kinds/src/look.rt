@@ -3,23 +3,25 @@ ghost use Rattle.kinds.specs.Looked.{Looked};
 
 use crate::gather::{gather, stream_of};
 use crate::kind::Kind;
-use crate::view::View;
+use crate::view::Streams;
 use domains::place::Place;
+use domains::question::Question;
 use frames::frame::Frame;
-use frames::row::Row;
 
 // None where the question has no answer, whatever is asked: more than 96 rows, a number that is not in the list,
 // or a row that is told of and outside the limits of a record.
-pub fn look<K: Kind>(kind: &K, rows: &[Row], places: &[Place], f: usize) -> Option<View>
-    ensures { Looked (K.price kind.now) rows.now places.now f result }
+pub fn look<K: Kind>(kind: &K, question: &Question<'_>) -> Option<Streams>
+    ensures { Looked (K.price kind.now) question.now.rows.now question.now.places.now question.now.frame result }
 {
-    if rows.len() > 96 || f >= rows.len() {
+    if question.rows.len() > 96 || question.frame >= question.rows.len() {
         return None;
     }
-    let frame = Frame::of(&rows[f])?;
-    let above = gather(kind, rows, places, f, Place::Above)?;
-    let below = gather(kind, rows, places, f, Place::Below)?;
-    Some(View {
+    let Ok(frame) = Frame::try_from(question.rows[question.frame]) else {
+        return None;
+    };
+    let above = gather(kind, question, Place::Above)?;
+    let below = gather(kind, question, Place::Below)?;
+    Some(Streams {
         own: stream_of(kind, &frame),
         above,
         below,

@@ -1,10 +1,43 @@
 // What a question tells of a list: the frame asked about, and those above and below it, as streams.
-use crate::table::Streams;
+ghost use Rattle.std.specs.Prelude.{◌≡◌, ◌≤◌, All, length};
+ghost use Rattle.streams.specs.Demands.{Fit};
+
+use arrayvec::ArrayVec;
+use streams::load::Load;
 use streams::stream::Stream;
 
+// As they are gathered.
+#[derive(Drop)]
+pub struct Streams {
+    pub(crate) own: Stream,
+    pub(crate) above: ArrayVec<Stream, 96>,
+    pub(crate) below: ArrayVec<Stream, 96>,
+    ghost fit: { Fit own },
+    ghost over: { All Fit above.items },
+    ghost under: { All Fit below.items },
+}
+
+// As a kind of domain is asked.
 #[derive(Clone, Copy)]
-pub struct View {
+pub struct View<'a> {
     pub own: Stream,
-    pub above: Streams,
-    pub below: Streams,
+    pub above: Load<'a>,
+    pub below: Load<'a>,
+    ghost fit: { Fit own },
+    ghost few: { length above.streams.now ≤ 96 },
+    ghost less: { length below.streams.now ≤ 96 },
+}
+
+impl Streams {
+    pub fn view(&self) -> View<'_>
+        ensures own { result.own ≡ self.now.own }
+        ensures above { result.above.streams.now ≡ self.now.above.items }
+        ensures below { result.below.streams.now ≡ self.now.below.items }
+    {
+        View {
+            own: self.own,
+            above: Load::new(self.above.as_slice()),
+            below: Load::new(self.below.as_slice()),
+        }
+    }
 }

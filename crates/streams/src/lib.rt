@@ -2,9 +2,8 @@
 // It knows of no frame record and no kind of domain, and is the one place that solves a response time equation.
 #![tactic(auto)]
 
-pub mod demand;
+pub mod load;
 pub mod rounding;
-pub mod settle;
 pub mod stream;
 pub mod totals;
 pub mod weight;

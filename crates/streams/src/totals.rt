@@ -1,24 +1,8 @@
 // Figures of many streams together.
-ghost use Rattle.std.specs.Prelude.{◌≡◌, ◌≤◌, length};
-ghost use Rattle.std.specs.List.{AllByRecursion};
-ghost use Rattle.shelf.specs.Folds.{least, most};
-ghost use Rattle.streams.specs.Demands.{Fit, total};
+ghost use Rattle.std.specs.Prelude.{◌≡◌};
+ghost use Rattle.shelf.specs.Folds.{least};
 
 use crate::stream::Stream;
-
-// The costs of the streams together.
-pub fn total_cost(streams: &[Stream]) -> u64
-    requires fit { AllByRecursion Fit streams.now }
-    requires few { length streams.now ≤ 96 }
-    ensures is { result ≡ total streams.now }
-    ensures low { result ≤ 1920000000 }
-{
-    let mut sum: u64 = 0;
-    for stream in streams {
-        sum += stream.cost;
-    }
-    sum
-}
 
 // The smallest of a period and those of the streams.
 pub fn least_period(first: u64, streams: &[Stream]) -> u64
@@ -29,17 +13,4 @@ pub fn least_period(first: u64, streams: &[Stream]) -> u64
         smallest = smallest.min(stream.period);
     }
     smallest
-}
-
-// The largest of the streams' costs, or 0.
-pub fn largest_cost(streams: &[Stream]) -> u64
-    requires { AllByRecursion Fit streams.now }
-    ensures is { result ≡ most (λ s. s.cost) streams.now }
-    ensures low { result ≤ 20000000 }
-{
-    let mut largest: u64 = 0;
-    for stream in streams {
-        largest = largest.max(stream.cost);
-    }
-    largest
 }

@@ -1,7 +1,5 @@
 // What lies behind the answer of a bus: the busy period, and each of its instances.
-ghost use Rattle.std.specs.Prelude.{◌≡◌, ◌≤◌, length};
-ghost use Rattle.std.specs.List.{AllByRecursion};
-ghost use Rattle.streams.specs.Demands.{Fit};
+ghost use Rattle.std.specs.Prelude.{◌≡◌};
 ghost use Rattle.domains.specs.Asked.{asked};
 ghost use Rattle.kinds.specs.KindLaws.{Own};
 ghost use Rattle.kinds.specs.Rows.{of_streams};
@@ -9,46 +7,38 @@ ghost use Rattle.bus.specs.Buses.{bus_price, bus_busy, bus_instance};
 
 use crate::bus::Bus;
 use crate::queue::busy_from;
-use domains::place::Place;
-use frames::row::Row;
+use domains::question::Question;
 use kinds::look::look;
+use kinds::view::View;
 use streams::rounding::div_up;
-use streams::stream::Stream;
-use streams::totals::largest_cost;
 
 impl Bus {
     // How long the bus is busy with frame f and those above it, at the worst; none where that has no end up to the horizon.
-    pub fn busy_period(&self, rows: &[Row], places: &[Place], f: usize) -> Option<u64>
-        ensures { result ≡ asked (of_streams (bus_price self.now) bus_busy) rows.now places.now f }
+    pub fn busy_period(&self, question: &Question<'_>) -> Option<u64>
+        ensures { result ≡ asked (of_streams (bus_price self.now) bus_busy) question.now.rows.now question.now.places.now question.now.frame }
     {
-        let view = look(self, rows, places, f)?;
-        busy_from(
-            view.own,
-            view.above.as_slice(),
-            largest_cost(view.below.as_slice()),
-        )
+        let streams = look(self, question)?;
+        let view = streams.view();
+        busy_from(&view, view.below.largest_cost())
     }
 
     // The response time of instance q of that busy period, counted from 0; none past its last instance.
-    pub fn instance(&self, rows: &[Row], places: &[Place], f: usize, q: u64) -> Option<u64>
-        ensures { result ≡ asked (of_streams (bus_price self.now) (bus_instance self.now.arbitration q)) rows.now places.now f }
+    pub fn instance(&self, question: &Question<'_>, q: u64) -> Option<u64>
+        ensures { result ≡ asked (of_streams (bus_price self.now) (bus_instance self.now.arbitration q)) question.now.rows.now question.now.places.now question.now.frame }
     {
-        let view = look(self, rows, places, f)?;
-        self.instance_of(view.own, view.above.as_slice(), view.below.as_slice(), q)
+        let streams = look(self, question)?;
+        self.instance_of(&streams.view(), q)
     }
 
-    fn instance_of(&self, own: Stream, above: &[Stream], below: &[Stream], q: u64) -> Option<u64>
-        requires own { Own (bus_price self.now) own }
-        requires over { AllByRecursion Fit above.now }
-        requires under { AllByRecursion Fit below.now }
-        requires few { length above.now ≤ 96 }
-        ensures { result ≡ bus_instance self.now.arbitration q own above.now below.now }
+    fn instance_of(&self, view: &View<'_>, q: u64) -> Option<u64>
+        requires { Own (bus_price self.now) view.now.own }
+        ensures { result ≡ bus_instance self.now.arbitration q view.now.own view.now.above.streams.now view.now.below.streams.now }
     {
-        let b = largest_cost(below);
-        let busy = busy_from(own, above, b)?;
-        if q >= div_up(busy, own.period) {
+        let b = view.below.largest_cost();
+        let busy = busy_from(view, b)?;
+        if q >= div_up(busy, view.own.period) {
             return None;
         }
-        Some(self.delay_of(own, above, b, q, 0) + own.cost - q * own.period)
+        Some(self.delay_of(view, b, q, 0) + view.own.cost - q * view.own.period)
     }
 }

@@ -1,7 +1,5 @@
 // The CAN FD bus as a domain.
-ghost use Rattle.std.specs.Prelude.{◌≡◌, ◌≤◌, [], ◌∷◌, length};
-ghost use Rattle.std.specs.List.{AllByRecursion};
-ghost use Rattle.streams.specs.Demands.{Fit};
+ghost use Rattle.std.specs.Prelude.{◌≡◌, [], ◌∷◌};
 ghost use Rattle.domains.specs.Faults.{Made, limited};
 ghost use Rattle.kinds.specs.KindLaws.{Own};
 ghost use Rattle.kinds.specs.Rows.{one, alone_cost, alone_response};
@@ -15,14 +13,12 @@ use crate::queue::busy_from;
 use domains::domain::Domain;
 use domains::fault::DomainFault;
 use domains::figure::check_figure;
-use domains::place::Place;
+use domains::question::Question;
 use frames::frame::Frame;
-use frames::row::Row;
 use kinds::alone::{answer_alone, cost_alone};
 use kinds::kind::Kind;
+use kinds::view::View;
 use streams::rounding::div_up;
-use streams::stream::Stream;
-use streams::totals::largest_cost;
 
 impl Bus {
     // A bus whose arbitration bits take 1,000 to 8,000 nanoseconds, and its data bits 125 up to as long.
@@ -52,26 +48,20 @@ impl Kind for Bus {
     }
 
     // Every instance of the busy period counts: a later one can be later than the first.
-    fn time(&self, own: Stream, above: &[Stream], below: &[Stream]) -> Option<u64>
-        requires own { Own (bus_price self.now) own }
-        requires over { AllByRecursion Fit above.now }
-        requires under { AllByRecursion Fit below.now }
-        requires few { length above.now ≤ 96 }
-        ensures is { result ≡ bus_time self.now.arbitration own above.now below.now }
-        ensures words { BusAnswer self.now.arbitration own above.now (blocking below.now) result }
+    fn time(&self, view: &View<'_>) -> Option<u64>
+        requires { Own (bus_price self.now) view.now.own }
+        ensures is { result ≡ bus_time self.now.arbitration view.now.own view.now.above.streams.now view.now.below.streams.now }
+        ensures words { BusAnswer self.now.arbitration view.now.own view.now.above.streams.now (blocking view.now.below.streams.now) result }
     {
-        let b = largest_cost(below);
-        let busy = busy_from(own, above, b)?;
-        let instances = div_up(busy, own.period);
+        let b = view.below.largest_cost();
+        let busy = busy_from(view, b)?;
+        let instances = div_up(busy, view.own.period);
         let mut worst: u64 = 0;
         let mut known: u64 = 0;
         for q in 0..instances {
             // The next instance waits at least until this one is done.
-            known = self.delay_of(own, above, b, q, known) + own.cost;
-            let time = known - q * own.period;
-            if time > worst {
-                worst = time;
-            }
+            known = self.delay_of(view, b, q, known) + view.own.cost;
+            worst = worst.max(known - q * view.own.period);
         }
         Some(worst)
     }
@@ -94,7 +84,7 @@ impl Domain for Bus {
         cost_alone(self, k, frame)
     }
 
-    fn answer(&self, k: usize, rows: &[Row], places: &[Place], f: usize) -> Option<u64> {
-        answer_alone(self, k, rows, places, f)
+    fn answer(&self, k: usize, question: &Question<'_>) -> Option<u64> {
+        answer_alone(self, k, question)
     }
 }

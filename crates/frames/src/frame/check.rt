@@ -3,35 +3,38 @@ ghost use Rattle.std.specs.Prelude.{◌≡◌};
 ghost use Rattle.frames.specs.Payloads.{payload};
 ghost use Rattle.frames.specs.Records.{Checked, row_of};
 
+use crate::fault::RowFault;
 use crate::frame::Frame;
 use crate::payload::payload_of;
 use crate::row::Row;
 
-impl Frame {
-    // The record of a row, or none where the row is outside the limits.
-    pub fn of(row: &Row) -> Option<Frame>
-        ensures { Checked row.now result }
-    {
+impl TryFrom<Row> for Frame {
+    type Error = RowFault;
+
+    ghost try_from_gives = { Checked };
+
+    // The record of a row, or the first limit that the row breaks.
+    fn try_from(row: Row) -> Result<Frame, RowFault> {
         let Row {
             sender,
             fill,
             period,
             deadline,
             set,
-        } = *row;
+        } = row;
         if fill < 1 || fill > 64 {
-            return None;
+            return Err(RowFault::Fill);
         }
         if period < 1_000_000 || period > 2_000_000_000 {
-            return None;
+            return Err(RowFault::Period);
         }
         if deadline < 1 || deadline > period {
-            return None;
+            return Err(RowFault::Deadline);
         }
         if set < 1 || set > 15 {
-            return None;
+            return Err(RowFault::Set);
         }
-        Some(Frame {
+        Ok(Frame {
             sender,
             fill,
             period,
@@ -39,19 +42,23 @@ impl Frame {
             set,
         })
     }
+}
 
-    pub fn row(&self) -> Row
-        ensures { result ≡ row_of self.now }
-    {
+impl From<Frame> for Row {
+    ghost from_gives = { λ f r. r ≡ row_of f };
+
+    fn from(frame: Frame) -> Row {
         Row {
-            sender: self.sender,
-            fill: self.fill,
-            period: self.period,
-            deadline: self.deadline,
-            set: self.set,
+            sender: frame.sender,
+            fill: frame.fill,
+            period: frame.period,
+            deadline: frame.deadline,
+            set: frame.set,
         }
     }
+}
 
+impl Frame {
     pub fn payload(&self) -> u8
         ensures { result ≡ payload self.now.fill }
     {

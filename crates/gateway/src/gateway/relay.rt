@@ -1,7 +1,5 @@
 // The gateway processor as a domain.
-ghost use Rattle.std.specs.Prelude.{◌≡◌, ◌≤◌, [], ◌∷◌, length};
-ghost use Rattle.std.specs.List.{AllByRecursion};
-ghost use Rattle.streams.specs.Demands.{Fit};
+ghost use Rattle.std.specs.Prelude.{◌≡◌, [], ◌∷◌};
 ghost use Rattle.domains.specs.Faults.{Made, limited};
 ghost use Rattle.kinds.specs.Rows.{one, alone_cost, alone_response};
 ghost use Rattle.gateway.specs.Gateways.{figures, gateway_price, relayed, Relayed};
@@ -12,13 +10,11 @@ use crate::gateway::Gateway;
 use domains::domain::Domain;
 use domains::fault::DomainFault;
 use domains::figure::check_figure;
-use domains::place::Place;
+use domains::question::Question;
 use frames::frame::Frame;
-use frames::row::Row;
 use kinds::alone::{answer_alone, cost_alone};
 use kinds::kind::Kind;
-use streams::settle::settle;
-use streams::stream::Stream;
+use kinds::view::View;
 
 impl Gateway {
     // A processor that takes 1,000 to 100,000 nanoseconds for a frame, and up to 1,000 more for each byte.
@@ -43,14 +39,11 @@ impl Kind for Gateway {
     }
 
     // A smallest solution, or none up to the horizon: frames below it do not matter.
-    fn time(&self, own: Stream, above: &[Stream], below: &[Stream]) -> Option<u64>
-        requires own { Fit own }
-        requires over { AllByRecursion Fit above.now }
-        requires few { length above.now ≤ 96 }
-        ensures is { result ≡ relayed own above.now below.now }
-        ensures smallest { Relayed own above.now result }
+    fn time(&self, view: &View<'_>) -> Option<u64>
+        ensures is { result ≡ relayed view.now.own view.now.above.streams.now view.now.below.streams.now }
+        ensures smallest { Relayed view.now.own view.now.above.streams.now result }
     {
-        settle(above, own.cost, 0, 1, 0)
+        view.above.settle(view.own.cost, 0, 1, 0)
     }
 }
 
@@ -71,7 +64,7 @@ impl Domain for Gateway {
         cost_alone(self, k, frame)
     }
 
-    fn answer(&self, k: usize, rows: &[Row], places: &[Place], f: usize) -> Option<u64> {
-        answer_alone(self, k, rows, places, f)
+    fn answer(&self, k: usize, question: &Question<'_>) -> Option<u64> {
+        answer_alone(self, k, question)
     }
 }

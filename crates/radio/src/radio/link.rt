@@ -10,13 +10,12 @@ use crate::radio::Radio;
 use domains::domain::Domain;
 use domains::fault::DomainFault;
 use domains::figure::check_figure;
-use domains::place::Place;
+use domains::question::Question;
 use frames::frame::Frame;
-use frames::row::Row;
 use kinds::alone::{answer_alone, cost_alone};
 use kinds::kind::Kind;
-use streams::stream::Stream;
-use streams::totals::{least_period, total_cost};
+use kinds::view::View;
+use streams::totals::least_period;
 
 impl Radio {
     // A link whose bytes take 10,000 to 200,000 nanoseconds each.
@@ -39,9 +38,10 @@ impl Kind for Radio {
         self.byte * (payload as u64 + 6)
     }
 
-    fn time(&self, own: Stream, above: &[Stream], below: &[Stream]) -> Option<u64> {
-        let sum = own.cost + total_cost(above) + total_cost(below);
-        let period = least_period(least_period(own.period, above), below);
+    fn time(&self, view: &View<'_>) -> Option<u64> {
+        let sum = view.own.cost + view.above.total_cost() + view.below.total_cost();
+        let period = least_period(view.own.period, view.above.as_slice());
+        let period = least_period(period, view.below.as_slice());
         if sum <= period { Some(sum) } else { None }
     }
 }
@@ -63,7 +63,7 @@ impl Domain for Radio {
         cost_alone(self, k, frame)
     }
 
-    fn answer(&self, k: usize, rows: &[Row], places: &[Place], f: usize) -> Option<u64> {
-        answer_alone(self, k, rows, places, f)
+    fn answer(&self, k: usize, question: &Question<'_>) -> Option<u64> {
+        answer_alone(self, k, question)
     }
 }

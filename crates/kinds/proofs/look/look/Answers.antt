@@ -1,32 +1,57 @@
-use Rattle.std.proofs.Common.{◌≡◌, None, sym, ap, ◌∙◌, subst, ⊎_elim, arith}
-use Rattle.frames.proofs.Lawfuls.{from_lawful, checked_none, checked_some}
+use Rattle.std.proofs.Common.{get_or, sym, ap, ◌∙◌, subst, arith}
+use Rattle.std.specs.List.{AllByRecursion}
+use Rattle.frames.proofs.Lawfuls.{from_lawful, checked_err, checked_ok}
+use Rattle.streams.specs.Demands.{Fit}
+use Rattle.streams.proofs.Fitting.{each_fits}
 use Rattle.domains.proofs.Asking.{asked_long, asked_outside, asked_unlawful, asked_unlawful_above, asked_unlawful_below, asked_is}
 use Rattle.domains.proofs.Replying.{all_lawful}
-use Rattle.domains.specs.Asked.{asked}
+use Rattle.domains.specs.Asked.{no_row}
 use Rattle.kinds.specs.Looked.{Looked}
 use Rattle.kinds.specs.Rows.{stream_by}
+use Rattle.kinds.proofs.Singles.{all_fit, own_by}
 use Rattle.kinds.proofs.look.look.Goals as goal
+use Rattle.kinds.proofs.look.look.Goals.{then-question-gt96-via-then-question-gt96, then-question-gt96-via-else-question-gt96+then-question}
 
-pub returns-then-rows-gt96 : goal.returns-then-rows-gt96
-returns-then-rows-gt96 g c =
-    λ response. ⊎_elim {C = None ≡ asked response c.args.rows.now c.args.places.now c.args.f} (asked_long response _ _ _) (λ h. asked_outside response _ _ _ h.1) c.then-rows-gt96.either
+pub returns-then-question-gt96 : goal.returns-then-question-gt96
+returns-then-question-gt96 g c =
+    let q = c.args.question.now in
+    λ response. elim c.then-question-gt96.branch [
+      | then-question-gt96-via-then-question-gt96 w ↦ asked_long response q.rows.now q.places.now q.frame w.if-question-gt96.true
+      | then-question-gt96-via-else-question-gt96+then-question w ↦ asked_outside response q.rows.now q.places.now q.frame w.if-question.true
+    ]
 
-pub returns-in_err-frame : goal.returns-in_err-frame
-returns-in_err-frame g c =
-    subst (Looked _ c.args.rows.now c.args.places.now c.args.f) (sym c.from_residual.ensures) (λ response. asked_unlawful response _ _ _ (checked_none _ c.in_err-frame.ensures))
+pub returns-in_default : goal.returns-in_default
+returns-in_default g c =
+    let q = c.args.question.now in
+    λ response. asked_unlawful response _ _ _ (checked_err (get_or q.rows.now q.frame no_row) _ c.in_default.ensures)
 
 pub returns-in_err-above : goal.returns-in_err-above
 returns-in_err-above g c =
-    subst (Looked _ c.args.rows.now c.args.places.now c.args.f) (sym c.from_residual-in_err-above.ensures) (λ response. asked_unlawful_above response _ _ _ c.in_err-above.ensures)
+    let q = c.args.question.now in
+    subst (Looked _ q.rows.now q.places.now q.frame) (sym c.from_residual.ensures) (λ response. asked_unlawful_above response _ _ _ c.in_err-above.ensures)
 
 pub returns-in_err-below : goal.returns-in_err-below
 returns-in_err-below g c =
-    subst (Looked _ c.args.rows.now c.args.places.now c.args.f) (sym c.from_residual-in_err-below.ensures) (λ response. asked_unlawful_below response _ _ _ c.in_err-below.ensures)
+    let q = c.args.question.now in
+    subst (Looked _ q.rows.now q.places.now q.frame) (sym c.from_residual-in_err-below.ensures) (λ response. asked_unlawful_below response _ _ _ c.in_err-below.ensures)
+
+pub invariant_of-result : goal.invariant_of-result
+invariant_of-result g c =
+    let laws = g.met.K.Kind.kept in
+    let d = c.args.kind.now in
+    let own = checked_ok (get_or c.args.question.now.rows.now c.args.question.now.frame no_row) c.in-Ok.frame c.in-Ok.ensures in
+    let above = c.in_ok-above.ensures in
+    let below = c.in_ok-below.ensures in
+    record {
+      fit = subst Fit (sym (c.stream_of.ensures ∙ ap (stream_by (g.K.Kind.price d)) c.in-Ok.ensures)) (own_by laws d (get_or c.args.question.now.rows.now c.args.question.now.frame no_row) (from_lawful _ own)).fit;
+      over = each_fits _ (subst (AllByRecursion Fit) (sym above.1) (all_fit laws d _ ((all_lawful _).0 above.0)));
+      under = each_fits _ (subst (AllByRecursion Fit) (sym below.1) (all_fit laws d _ ((all_lawful _).0 below.0)));
+    }
 
 pub returns : goal.returns
 returns g c =
-    let row = c.in_ok-frame.ensures in
-    let own = checked_some _ c.in_ok-frame.frame row in
+    let row = c.in-Ok.ensures in
+    let own = checked_ok (get_or c.args.question.now.rows.now c.args.question.now.frame no_row) c.in-Ok.frame row in
     let above = c.in_ok-above.ensures in
     let below = c.in_ok-below.ensures in
     record {

@@ -1,32 +1,31 @@
 use Rattle.std.proofs.Common.{◌<◌, ◌≤◌, ap, ◌∙◌, arith}
 use Rattle.streams.specs.Demands.{ceil}
+use Rattle.streams.proofs.Fitting.{all_fit}
 use Rattle.bus.specs.Buses.{instance_by}
 use Rattle.bus.proofs.Instances.{blocking_is, instance_none, instance_past, instance_found}
 use Rattle.bus.proofs.bus.Bus.instance_of.Goals as goal
 
 pub busy_from-requires : goal.busy_from-requires
 busy_from-requires c =
-    record { own = c.requires.own.fit; over = c.requires.over; few = c.requires.few; blocked = omega (arith, c.largest_cost-b.ensures.low) }
+    omega (arith, c.largest_cost-b.ensures.low)
 
 pub returns-in_err-busy : goal.returns-in_err-busy
 returns-in_err-busy c =
     let a = c.args.self.now.arbitration in
-    c.from_residual.ensures ∙ instance_none a c.args.own c.args.above.now _ c.in_err-busy.ensures.is c.args.q
-    ∙ ap (λ b. instance_by a c.args.own c.args.above.now b c.args.q) (blocking_is _ _ c.largest_cost-b.ensures.is)
+    c.from_residual.ensures ∙ instance_none a c.args.view.now.own c.args.view.now.above.streams.now _ c.in_err-busy.ensures.is c.args.q
+    ∙ ap (λ b. instance_by a c.args.view.now.own c.args.view.now.above.streams.now b c.args.q) (blocking_is _ _ c.largest_cost-b.ensures.is)
 
 pub returns-then-q-div_up : goal.returns-then-q-div_up
 returns-then-q-div_up c =
     let a = c.args.self.now.arbitration in
-    let past : ceil c.in_ok-busy.busy c.args.own.period ≤ c.args.q = omega (arith, c.div_up.ensures.is) in
-    instance_past a c.args.own c.args.above.now _ c.in_ok-busy.busy c.args.q c.in_ok-busy.ensures.is past
-    ∙ ap (λ b. instance_by a c.args.own c.args.above.now b c.args.q) (blocking_is _ _ c.largest_cost-b.ensures.is)
+    let past : ceil c.in_ok-busy.busy c.args.view.now.own.period ≤ c.args.q = omega (arith, c.div_up.ensures.is) in
+    instance_past a c.args.view.now.own c.args.view.now.above.streams.now _ c.in_ok-busy.busy c.args.q c.in_ok-busy.ensures.is past
+    ∙ ap (λ b. instance_by a c.args.view.now.own c.args.view.now.above.streams.now b c.args.q) (blocking_is _ _ c.largest_cost-b.ensures.is)
 
 pub delay_of-requires : goal.delay_of-requires
 delay_of-requires c =
     record {
-      own = c.requires.own;
-      over = c.requires.over;
-      few = c.requires.few;
+      own = c.requires;
       blocked = omega (arith, c.largest_cost-b.ensures.low);
       within = (c.in_ok-busy.busy, c.in_ok-busy.ensures.is, omega (arith, c.div_up.ensures.is));
       rises = omega arith;
@@ -39,6 +38,6 @@ overflow_sub-result c = omega (arith, c.delay_of.ensures.begins)
 pub returns : goal.returns
 returns c =
     let a = c.args.self.now.arbitration in
-    let in_busy : c.args.q < ceil c.in_ok-busy.busy c.args.own.period = omega (arith, c.div_up.ensures.is) in
-    instance_found a c.args.own c.args.above.now _ c.in_ok-busy.busy c.args.q c.delay_of.result c.in_ok-busy.ensures.is in_busy c.delay_of.ensures.is
-    ∙ ap (λ b. instance_by a c.args.own c.args.above.now b c.args.q) (blocking_is _ _ c.largest_cost-b.ensures.is)
+    let in_busy : c.args.q < ceil c.in_ok-busy.busy c.args.view.now.own.period = omega (arith, c.div_up.ensures.is) in
+    instance_found a c.args.view.now.own c.args.view.now.above.streams.now _ c.in_ok-busy.busy c.args.q c.delay_of.result c.in_ok-busy.ensures.is in_busy c.delay_of.ensures.is
+    ∙ ap (λ b. instance_by a c.args.view.now.own c.args.view.now.above.streams.now b c.args.q) (blocking_is _ _ c.largest_cost-b.ensures.is)

@@ -1,23 +1,23 @@
 use Rattle.std.proofs.Common.{◌≡◌, ◌+◌, ◌-◌, ◌*◌, max, sym, refl, ap, ◌∙◌, subst, arith}
+use Rattle.streams.proofs.Fitting.{all_fit}
 use Rattle.bus.specs.Answers.{BusAnswer}
 use Rattle.bus.specs.Buses.{blocking, response_by}
 use Rattle.bus.specs.Bussing.{response_answer}
 use Rattle.bus.proofs.Instances.{instances_none, instances_more, blocking_is, no_end, worst_found}
 use Rattle.bus.specs.Wiring.{short}
 use Rattle.bus.proofs.bus.wire.BusKind.time.Goals as goal
-use Rattle.bus.proofs.bus.wire.BusKind.time.Goals.{then-time-worst, else-time-worst}
 
 pub busy_from-requires : goal.busy_from-requires
 busy_from-requires c =
-    record { own = c.requires.own.fit; over = c.requires.over; few = c.requires.few; blocked = omega (arith, c.largest_cost-b.ensures.low) }
+    omega (arith, c.largest_cost-b.ensures.low)
 
 pub returns-in_err-busy : goal.returns-in_err-busy
 returns-in_err-busy c =
     let a = c.args.self.now.arbitration in
-    let own = c.args.own in
-    let us = c.args.above.now in
+    let own = c.args.view.now.own in
+    let us = c.args.view.now.above.streams.now in
     let is = c.from_residual.ensures ∙ no_end a own us _ c.in_err-busy.ensures.is ∙ ap (response_by a own us) (blocking_is _ _ c.largest_cost-b.ensures.is) in
-    record { is = is; words = subst (BusAnswer a own us (blocking c.args.below.now)) (sym is) (response_answer a own us (blocking c.args.below.now) c.requires.own.fit (short c.args.self.now own c.requires.own) c.requires.over) }
+    record { is = is; words = subst (BusAnswer a own us (blocking c.args.view.now.below.streams.now)) (sym is) (response_answer a own us (blocking c.args.view.now.below.streams.now) c.requires.fit (short c.args.self.now own c.requires) (all_fit _ c.args.view.now.above.fit)) }
 
 pub loop-q-init : goal.loop-q-init
 loop-q-init c = instances_none _ _ _ _
@@ -25,29 +25,26 @@ loop-q-init c = instances_none _ _ _ _
 pub delay_of-requires : goal.delay_of-requires
 delay_of-requires c =
     record {
-      own = c.requires.own;
-      over = c.requires.over;
-      few = c.requires.few;
+      own = c.requires;
       blocked = omega (arith, c.largest_cost-b.ensures.low);
       within = (c.in_ok-busy.busy, c.in_ok-busy.ensures.is, omega (arith, c.div_up-instances.ensures.is));
       rises = c.loop-q.invariant.rises;
       below = c.loop-q.invariant.below;
     }
 
-pub overflow_sub-time : goal.overflow_sub-time
-overflow_sub-time c = omega (arith, c.delay_of.ensures.begins)
+pub overflow_sub-known : goal.overflow_sub-known
+overflow_sub-known c = omega (arith, c.delay_of.ensures.begins)
 
 pub loop-q-preserved : goal.loop-q-preserved
 loop-q-preserved c =
-    let time = (c.delay_of.result + c.args.own.cost) - c.loop-q.q * c.args.own.period in
-    let worst : c.if-time-worst.worst ≡ max c.loop-q.worst time = elim c.if-time-worst.branch [ then-time-worst w ↦ omega (arith, w.worst-is) | else-time-worst w ↦ omega (arith, w.worst-is) ] in
-    instances_more c.args.self.now.arbitration c.args.own c.args.above.now c.largest_cost-b.result c.requires.over c.loop-q.q c.delay_of.result c.delay_of.ensures.is c.loop-q.worst c.loop-q.known _ _ c.loop-q.invariant refl worst
+    let time = (c.delay_of.result + c.args.view.now.own.cost) - c.loop-q.q * c.args.view.now.own.period in
+    instances_more c.args.self.now.arbitration c.args.view.now.own c.args.view.now.above.streams.now c.largest_cost-b.result (all_fit _ c.args.view.now.above.fit) c.loop-q.q c.delay_of.result c.delay_of.ensures.is c.loop-q.worst c.loop-q.known _ _ c.loop-q.invariant refl c.max-worst.ensures
 
 pub returns : goal.returns
 returns c =
     let a = c.args.self.now.arbitration in
-    let own = c.args.own in
-    let us = c.args.above.now in
+    let own = c.args.view.now.own in
+    let us = c.args.view.now.above.streams.now in
     let all : c.loop-q.q ≡ c.div_up-instances.result = omega arith in
     let is = worst_found a own us _ c.in_ok-busy.busy c.loop-q.q c.loop-q.worst c.in_ok-busy.ensures.is (all ∙ c.div_up-instances.ensures.is) c.loop-q.invariant.worst_is ∙ ap (response_by a own us) (blocking_is _ _ c.largest_cost-b.ensures.is) in
-    record { is = is; words = subst (BusAnswer a own us (blocking c.args.below.now)) (sym is) (response_answer a own us (blocking c.args.below.now) c.requires.own.fit (short c.args.self.now own c.requires.own) c.requires.over) }
+    record { is = is; words = subst (BusAnswer a own us (blocking c.args.view.now.below.streams.now)) (sym is) (response_answer a own us (blocking c.args.view.now.below.streams.now) c.requires.fit (short c.args.self.now own c.requires) (all_fit _ c.args.view.now.above.fit)) }

@@ -8,11 +8,13 @@ use Rattle.gateway.proofs.gateway.relay.GatewayKind.time.Goals as goal
 
 pub settle-requires : goal.settle-requires
 settle-requires c =
-    record { fit = c.requires.over; few = omega arith; small = omega (arith, c.requires.own.priced); near = omega arith; early = omega arith; rises = omega (arith, c.requires.own.priced); below = λ v h e. omega arith }
+    let fit = c.args.view.now.fit in
+    record { small = omega (arith, fit.priced); near = omega arith; early = omega arith; rises = omega (arith, fit.priced); below = λ v h e. omega arith }
 
 pub returns : goal.returns
 unfolding relayed
 returns c =
-    let above = c.args.above.now in
-    let is = c.settle.ensures.is ∙ ap (λ (rule : ℕ → ℕ). solution rule 1 horizon) (fun_ext (λ w. ap (λ n. c.args.own.cost + demand above n) (add-zero w))) in
-    record { is = is; smallest = subst (Relayed c.args.own above) (sym is) (relayed_is c.args.own above c.args.below.now) }
+    let v = c.args.view.now in
+    let above = v.above.streams.now in
+    let is = c.settle.ensures.is ∙ ap (λ (rule : ℕ → ℕ). solution rule 1 horizon) (fun_ext (λ w. ap (λ n. v.own.cost + demand above n) (add-zero w))) in
+    record { is = is; smallest = subst (Relayed v.own above) (sym is) (relayed_is v.own above v.below.streams.now) }

@@ -1,6 +1,6 @@
 use Rattle.std.proofs.Common.{◌*◌, ap, arith}
 use Rattle.streams.proofs.Demanding.{share_le}
-use Rattle.streams.proofs.demand.share.Goals as goal
+use Rattle.streams.proofs.load.demand.share.Goals as goal
 
 pub overflow_mul-result : goal.overflow_mul-result
 overflow_mul-result c =

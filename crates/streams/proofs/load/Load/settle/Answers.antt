@@ -1,35 +1,36 @@
 use Rattle.std.proofs.Common.{◌≡◌, ℕ, ◌+◌, ◌≤◌, Some, None, sym, ap, ◌∙◌, subst, arith}
 use Rattle.shelf.proofs.Solutions.{is_solution}
 use Rattle.streams.specs.Demands.{busy, demand}
+use Rattle.streams.proofs.Fitting.{all_fit}
 use Rattle.streams.proofs.Demanding.{demand_mono}
-use Rattle.streams.proofs.settle.settle.Goals as goal
+use Rattle.streams.proofs.load.Load.settle.Goals as goal
 
 pub loop-w-init : goal.loop-w-init
 loop-w-init c =
-    let rule : ℕ → ℕ = busy c.args.streams.now c.args.base c.args.ahead in
+    let rule : ℕ → ℕ = busy c.args.self.now.streams.now c.args.base c.args.ahead in
     let start = c.max-w.ensures in
     (omega (arith, start), subst (λ (w : ℕ). w ≤ rule w) (sym start) c.requires.rises, λ v a p. omega (arith, start, c.requires.below v a p))
 
 pub returns-then-next-w : goal.returns-then-next-w
 returns-then-next-w c =
     let inv = c.loop-w.invariant in
-    let rule : ℕ → ℕ = busy c.args.streams.now c.args.base c.args.ahead in
-    let served : c.loop-w.w ≡ rule c.loop-w.w = sym c.if-next-w.true ∙ ap (λ n. c.args.base + n) c.demand_in.ensures.is in
+    let rule : ℕ → ℕ = busy c.args.self.now.streams.now c.args.base c.args.ahead in
+    let served : c.loop-w.w ≡ rule c.loop-w.w = sym c.if-next-w.true ∙ ap (λ n. c.args.base + n) c.demand.ensures.is in
     record { is = is_solution rule c.args.from 4000000000 c.requires.early (Some c.loop-w.w) (inv.0, c.loop-w-test.true, served, λ v a b p. omega (arith, inv.2 v a p)); soon = c.loop-w-test.true }
 
 pub loop-w-preserved : goal.loop-w-preserved
 loop-w-preserved c =
     let x = c.args.ahead in
-    let streams = c.args.streams.now in
+    let streams = c.args.self.now.streams.now in
     let d = demand streams in
-    let up : (v w : ℕ) → v ≤ w → d (v + x) ≤ d (w + x) = λ v w h. demand_mono streams c.requires.fit (v + x) (w + x) (omega arith) in
-    let h : c.demand_in.result ≡ d (c.loop-w.w + x) = c.demand_in.ensures.is in
+    let up : (v w : ℕ) → v ≤ w → d (v + x) ≤ d (w + x) = λ v w h. demand_mono streams (all_fit _ c.args.self.now.fit) (v + x) (w + x) (omega arith) in
+    let h : c.demand.result ≡ d (c.loop-w.w + x) = c.demand.ensures.is in
     let inv = c.loop-w.invariant in
-    let next : ℕ = c.args.base + c.demand_in.result in
+    let next : ℕ = c.args.base + c.demand.result in
     let on : c.loop-w.w ≤ next = omega (arith, inv.1, h) in
     (omega (arith, inv.0, on), omega (arith, h, up c.loop-w.w next on), λ v a p. omega (arith, h, p, up c.loop-w.w v (inv.2 v a p)))
 
 pub returns : goal.returns
 returns c =
-    let rule : ℕ → ℕ = busy c.args.streams.now c.args.base c.args.ahead in
+    let rule : ℕ → ℕ = busy c.args.self.now.streams.now c.args.base c.args.ahead in
     record { is = is_solution rule c.args.from 4000000000 c.requires.early None (λ v a b p. omega (arith, c.loop-w.invariant.2 v a p, c.loop-w-test.false)); soon = tt }
