@@ -4,7 +4,7 @@ ghost use Rattle.domains.specs.declared.place.Place.TheVariants.{Above as Up, Be
 ghost use Rattle.timing.specs.Ranked.{response_at};
 
 use crate::carried::carries;
-use crate::everywhere::{Frames, Trial};
+use crate::everywhere::Trial;
 use domains::domain::Domain;
 use domains::place::Place;
 use frames::row::Row;
@@ -26,7 +26,8 @@ pub fn response_at<B: Domain>(bank: &B, k: usize, rows: &[Row], f: usize) -> Opt
     }
     let table: [Place; 96] = array::from_fn(|i| rank_of(f, i));
     let trial = Trial {
-        frames: &Frames { bank, rows },
+        bank,
+        rows,
         places: &table[..rows.len()],
     };
     trial.response_in(f, k)
