@@ -3,6 +3,8 @@ use Rattle.std.proofs.Common.{◌≡◌, ℕ, ◌+◌, ◌<◌, ◌≤◌, Bool,
 use Rattle.std.proofs.lemmas.List.{at_drop_all}
 use Rattle.shelf.specs.Numbers.{chosen}
 use Rattle.timing.specs.Places.{is_above}
+use denote.Enum.Bare.{sameb}
+use Rattle.domains.specs.contracts.place.Place.{the_type}
 use Rattle.domains.specs.declared.place.Place.{Place}
 use Rattle.domains.specs.declared.place.Place.TheVariants.{Above, Below, Absent}
 use Rattle.shelf.proofs.Numbering.{chosen_skip, chosen_take}
@@ -43,7 +45,7 @@ module _ {P : Type 0} {is : P → Bool} {p : ℕ → Bool} {ps : List P} {i n : 
       let c = at_drop_all (chosen is i) ps i l in
       (sym (h.same ∙ ap (found p) c), omega (arith, h.count, ap (examined p) c))
 
-pub not_above : (x : Place) → (x ≡ Above → ⊥) → is_above x ≡ false
-not_above Above n = absurd (n refl)
-not_above Below n = refl
-not_above Absent n = refl
+pub equal_above : (x : Place) → sameb the_type x Above ≡ is_above x
+equal_above Above = refl
+equal_above Below = refl
+equal_above Absent = refl

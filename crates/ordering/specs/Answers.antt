@@ -1,23 +1,28 @@
 -- What the public call answers. Assumes nothing.
-use Rattle.std.specs.Prelude.{◌≡◌, ◌+◌, ◌*◌, ◌/◌, ◌≤◌, Bool, List, map, length, take, drop, replicate, Some, None, Ok, Err, Result}
+use Rattle.std.specs.Prelude.{◌≡◌, ℕ, ◌+◌, ◌*◌, ◌/◌, ◌≤◌, Bool, List, [], map, length, take, drop, replicate, Some, None, Ok, Err, Option, Result}
 use Rattle.shelf.specs.Picks.{Perm}
 use Rattle.shelf.specs.Numbers.{numbers}
 use Rattle.timing.specs.Places.{above, row_at}
 use Rattle.domains.specs.Asked.{no_row}
 use Rattle.frames.specs.declared.row.Row.{Row}
 use Rattle.domains.specs.declared.place.Place.TheVariants.{Above}
-use Rattle.ordering.specs.Orders.{Meets, HasOrder, IsConflict, order_of, examinations_of, conflict_of}
+use Rattle.ordering.specs.Orders.{Meets, HasOrder, greedy, examinations, IsConflict, order_of, examinations_of, conflict_of}
 use Rattle.ordering.specs.declared.orders.Placement.{Placement}
 use Rattle.ordering.specs.declared.conflicts.Conflict.{Conflict}
 
+-- what a try at all places gives: the frames in order, with the number of examinations
+abbrev pub Arranged : (ℕ → List ℕ → List ℕ → Bool) → List ℕ → ℕ → Option Placement → Type 0
+Arranged t us count None = greedy t count us [] ≡ None
+Arranged t us count (Some p) =
+    (greedy t count us [] ≡ Some p.numbers.items) × (p.examinations ≡ examinations t count us [])
+
 pub record Placed (t : Row → List Row → List Row → Bool) (rows : List Row) (p : Placement) : Type 0 where
-  pub is : order_of t rows no_row ≡ Some (take (length rows) p.numbers)
-  pub rest : drop (length rows) p.numbers ≡ drop (length rows) (replicate 96 0)
-  pub count : p.count ≡ length rows
+  pub is : order_of t rows no_row ≡ Some p.numbers.items
+  pub count : length p.numbers.items ≡ length rows
   pub examinations : p.examinations ≡ examinations_of t rows no_row
   pub few : p.examinations ≤ length rows * (length rows + 1) / 2
-  pub once : Perm (numbers 0 rows) (take (length rows) p.numbers)
-  pub meets : Meets t (map (row_at rows) (take (length rows) p.numbers))
+  pub once : Perm (numbers 0 rows) p.numbers.items
+  pub meets : Meets t (map (row_at rows) p.numbers.items)
 
 pub record Refused (t : Row → List Row → List Row → Bool) (rows : List Row) (c : Conflict) : Type 0 where
   pub none : order_of t rows no_row ≡ None

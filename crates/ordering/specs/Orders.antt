@@ -1,5 +1,5 @@
 -- Orders, the greedy choice of one, and the conflict. Assumes nothing.
-use Rattle.std.specs.Prelude.{◌≡◌, ℕ, zero, suc, ◌+◌, Bool, true, cond, List, [], ◌∷◌, ◌++◌, map, length, take, is_some, Some, None, Option, slice_index_or}
+use Rattle.std.specs.Prelude.{◌≡◌, ℕ, zero, suc, ◌+◌, Bool, true, cond, List, [], ◌∷◌, ◌++◌, map, length, is_some, Some, None, Option, slice_index_or}
 use Rattle.shelf.specs.Picks.{Pick, Perm, Part}
 use Rattle.shelf.specs.Numbers.{without, numbers}
 use Rattle.timing.specs.Places.{by_number}
@@ -67,8 +67,3 @@ pub record IsConflict {F : Type 0} (t : F → List F → List F → Bool) (rows 
   pub within : Part (numbers 0 rows) cs
   pub none : HasOrder t (map (at_row rows d) cs) → ⊥
   pub each : (x : ℕ) (r : List ℕ) → Pick x cs r → HasOrder t (map (at_row rows d) r)
-
--- what a try at all places gives: the number of examinations, with the order in the table's first places
-abbrev pub Arranged : (ℕ → List ℕ → List ℕ → Bool) → List ℕ → ℕ → List ℕ → Option ℕ → Type 0
-Arranged t us count order None = greedy t count us [] ≡ None
-Arranged t us count order (Some n) = (greedy t count us [] ≡ Some (take count order)) × (n ≡ examinations t count us [])

@@ -1,35 +1,28 @@
 // An order of all frames of a list, or the conflict where there is none.
-ghost use Rattle.std.specs.Prelude.{◌≤◌, length};
 ghost use Rattle.timing.specs.Everywhere.{everywhere};
 ghost use Rattle.ordering.specs.Answers.{Answered};
 
 use crate::conflicts::{Conflict, find_conflict};
 use crate::places::arrange;
+use arrayvec::ArrayVec;
 use domains::domain::Domain;
 use domains::place::Place;
-use frames::row::Row;
+use timing::everywhere::Frames;
 
-// The number of the frame at each of the first `count` places, and how many examinations it took.
-#[derive(Clone, Copy)]
+// The number of the frame at each place, and how many examinations it took.
+#[derive(Drop)]
 pub struct Placement {
-    pub count: usize,
     pub examinations: usize,
-    pub numbers: [u8; 96],
+    pub numbers: ArrayVec<u8, 96>,
 }
 
-pub fn find_order<B: Domain>(bank: &B, rows: &[Row]) -> Result<Placement, Conflict>
-    requires { length rows.now ≤ 96 }
-    ensures { Answered (everywhere (B.response bank.now)) rows.now result }
+pub fn find_order<B: Domain>(frames: &Frames<B>) -> Result<Placement, Conflict>
+    ensures { Answered (everywhere (B.response frames.now.bank.now)) frames.now.rows.now result }
 {
-    let count = rows.len();
+    let count = frames.rows.len();
     let mut places = [Place::Above; 96];
-    let mut numbers = [0u8; 96];
-    match arrange(bank, rows, &mut places[0..count], count, &mut numbers) {
-        Some(examinations) => Ok(Placement {
-            count,
-            examinations,
-            numbers,
-        }),
-        None => Err(find_conflict(bank, rows)),
+    match arrange(frames, &mut places[..count], count) {
+        Some(placement) => Ok(placement),
+        None => Err(find_conflict(frames)),
     }
 }

@@ -1,13 +1,15 @@
 // Places from the last to the first, each to the first frame that is in time there.
-ghost use Rattle.std.specs.Prelude.{◌≡◌, ◌≤◌, [], length, drop};
+ghost use Rattle.std.specs.Prelude.{◌≡◌, [], length};
 ghost use Rattle.timing.specs.Everywhere.{everywhere};
 ghost use Rattle.timing.specs.Places.{tested, above, below, row_at, by_number};
-ghost use Rattle.ordering.specs.Orders.{found, examined, Arranged};
+ghost use Rattle.ordering.specs.Answers.{Arranged};
+ghost use Rattle.ordering.specs.Orders.{found, examined};
 
+use crate::orders::Placement;
+use arrayvec::ArrayVec;
 use domains::domain::Domain;
 use domains::place::Place;
-use frames::row::Row;
-use timing::everywhere::in_time_everywhere;
+use timing::everywhere::{Frames, Trial};
 
 // The frame that a place goes to, and how many were examined for it.
 #[derive(Clone, Copy)]
@@ -17,18 +19,17 @@ pub struct Looked {
 }
 
 // The frames above, which have no place, in list order: the first that is in time gets it.
-pub(crate) fn examine<B: Domain>(bank: &B, rows: &[Row], places: &[Place]) -> Looked
-    requires { (length places.now ≡ length rows.now) × (length rows.now ≤ 96) }
-    ensures frame { result.frame ≡ found (tested (everywhere (B.response bank.now)) rows.now places.now) (above places.now) }
-    ensures examinations { result.examinations ≡ examined (tested (everywhere (B.response bank.now)) rows.now places.now) (above places.now) }
+pub(crate) fn examine<B: Domain>(trial: &Trial<B>) -> Looked
+    ensures frame { let places = trial.now.places.now in result.frame ≡ found (tested (everywhere (B.response trial.now.bank.now)) trial.now.rows.now places) (above places) }
+    ensures examinations { let places = trial.now.places.now in result.examinations ≡ examined (tested (everywhere (B.response trial.now.bank.now)) trial.now.rows.now places) (above places) }
 {
     let mut examinations = 0;
-    for i in 0..rows.len() {
-        if let Place::Above = places[i] {
+    for (f, place) in trial.places.iter().enumerate() {
+        if *place == Place::Above {
             examinations += 1;
-            if in_time_everywhere(bank, rows, places, i) {
+            if trial.in_time(f) {
                 return Looked {
-                    frame: Some(i),
+                    frame: Some(f),
                     examinations,
                 };
             }
@@ -40,34 +41,32 @@ pub(crate) fn examine<B: Domain>(bank: &B, rows: &[Row], places: &[Place]) -> Lo
     }
 }
 
-// Gives the `count` frames that the table has above their places, from the last to the first, and writes the frame of
-// each. The answer is the number of examinations, or none where at some place no frame fits.
+// Gives the `count` frames that the table has above their places, from the last to the first; none where at some place
+// no frame fits.
 pub(crate) fn arrange<B: Domain>(
-    bank: &B,
-    rows: &[Row],
+    frames: &Frames<B>,
     places: &mut [Place],
     count: usize,
-    order: &mut [u8; 96],
-) -> Option<usize>
-    requires long { length places.old ≡ length rows.now }
-    requires few { length rows.now ≤ 96 }
+) -> Option<Placement>
+    requires long { length places.old ≡ length frames.now.rows.now }
     requires free { length (above places.old) ≡ count }
-    requires fits { count ≤ 96 }
     requires none { below places.old ≡ [] }
-    ensures rest { drop count order.new ≡ drop count order.old }
-    ensures arranged { Arranged (by_number (everywhere (B.response bank.now)) (row_at rows.now)) (above places.old) count order.new result }
+    ensures { Arranged (by_number (everywhere (B.response frames.now.bank.now)) (row_at frames.now.rows.now)) (above places.old) count result }
 {
-    let mut examinations = 0;
-    for left in (0..count).rev() {
-        let looked = examine(bank, rows, places);
-        examinations += looked.examinations;
-        match looked.frame {
-            Some(f) => {
-                places[f] = Place::Below;
-                order[left] = f as u8;
-            }
-            None => return None,
-        }
+    let mut placement = Placement {
+        examinations: 0,
+        numbers: ArrayVec::new(),
+    };
+    while placement.numbers.len() < count {
+        let looked = examine(&Trial {
+            bank: frames.bank,
+            rows: frames.rows,
+            places,
+        });
+        let f = looked.frame?;
+        places[f] = Place::Below;
+        placement.examinations += looked.examinations;
+        placement.numbers.insert(0, f as u8);
     }
-    Some(examinations)
+    Some(placement)
 }

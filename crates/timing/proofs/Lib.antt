@@ -1,4 +1,4 @@
 pub mod Combining
 pub mod Ranking
+pub mod Tables
 pub mod Telling
-pub mod Timely

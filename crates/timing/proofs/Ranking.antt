@@ -6,59 +6,52 @@ use Rattle.std.proofs.lemmas.Bool.Decides.{nat_tests}
 use Rattle.frames.specs.declared.row.Row.{Row}
 use Rattle.domains.specs.declared.place.Place.{Place}
 use Rattle.domains.specs.declared.place.Place.TheVariants.{Above, Below, Absent}
-use Rattle.domains.specs.Asked.{same, stance, picked, standing, reply, asked, no_row}
+use Rattle.domains.specs.Asked.{same, stance, picked, standing, reply, no_row}
 use Rattle.timing.specs.Carried.{carried}
 use Rattle.timing.specs.Everywhere.{response_in}
-use Rattle.timing.specs.Ranked.{rank, response_at}
+use Rattle.timing.specs.Places.{row_at, rows_above, rows_below}
+use Rattle.timing.specs.Ranked.{response_at}
+use Rattle.timing.proofs.Telling.{standing_above, standing_below}
 
 ltb_suc : (i f : ℕ) → ltb (suc i) (suc f) ≡ ltb i f
 ltb_suc i f = grind (arith, nat_tests)
 
--- what is picked by number, as what is kept by a test of the element
-module _ {X : Type 0} (p : X → Bool) (d : X) where
-  none : (t : ℕ → Bool) (xs : List X) → ((i : ℕ) → i < length xs → t i ≡ false) → picked t xs ≡ []
-  none t [] h = refl
-  none t (x ∷ xs) h = cond-false (t 0) _ _ (h 0 (omega arith)) ∙ none (λ i. t (suc i)) xs (λ i l. h (suc i) (omega arith))
+-- what is picked by number is what lies before, or behind, that number
+none : {X : Type 0} (t : ℕ → Bool) (xs : List X) → ((i : ℕ) → i < length xs → t i ≡ false) → picked t xs ≡ []
+none t [] h = refl
+none t (x ∷ xs) h = cond-false (t 0) _ _ (h 0 (omega arith)) ∙ none (λ i. t (suc i)) xs (λ i l. h (suc i) (omega arith))
 
-  all : (t : ℕ → Bool) (xs : List X) → ((i : ℕ) → i < length xs → t i ≡ p (get_or xs i d)) → picked t xs ≡ filter p xs
-  all t [] h = refl
-  all t (x ∷ xs) h =
-      ap₂ (λ b l. cond b (x ∷ l) l) (h 0 (omega arith)) (all (λ i. t (suc i)) xs (λ i l. h (suc i) (omega arith)))
+all : {X : Type 0} (t : ℕ → Bool) (xs : List X) → ((i : ℕ) → i < length xs → t i ≡ true) → picked t xs ≡ xs
+all t [] h = refl
+all t (x ∷ xs) h =
+    cond-true (t 0) _ _ (h 0 (omega arith)) ∙ ap (λ l. x ∷ l) (all (λ i. t (suc i)) xs (λ i l. h (suc i) (omega arith)))
 
-  pub before : (t : ℕ → Bool) (xs : List X) (f : ℕ) → ((i : ℕ) → i < length xs → t i ≡ cond (ltb i f) (p (get_or xs i d)) false) → picked t xs ≡ filter p (take f xs)
-  before t [] zero h = refl
-  before t [] (suc f) h = refl
-  before t (x ∷ xs) zero h = none t (x ∷ xs) (λ i l. h i l ∙ cond-false (ltb i 0) _ _ (le-ltb i 0 (omega arith)))
-  before t (x ∷ xs) (suc f) h =
-      ap₂ (λ b l. cond b (x ∷ l) l) (h 0 (omega arith) ∙ cond-true (ltb 0 (suc f)) (p x) false (lt-ltb 0 (suc f) (omega arith))) (before (λ i. t (suc i)) xs f (λ i l. h (suc i) (omega arith) ∙ ap (λ b. cond b (p (get_or xs i d)) false) (ltb_suc i f)))
+before : {X : Type 0} (t : ℕ → Bool) (xs : List X) (f : ℕ) → ((i : ℕ) → i < length xs → t i ≡ ltb i f) → picked t xs ≡ take f xs
+before t [] zero h = refl
+before t [] (suc f) h = refl
+before t (x ∷ xs) zero h = none t (x ∷ xs) (λ i l. h i l ∙ le-ltb i 0 (omega arith))
+before t (x ∷ xs) (suc f) h =
+    cond-true (t 0) _ _ (h 0 (omega arith) ∙ lt-ltb 0 (suc f) (omega arith)) ∙ ap (λ l. x ∷ l) (before (λ i. t (suc i)) xs f (λ i l. h (suc i) (omega arith) ∙ ltb_suc i f))
 
-  pub after : (t : ℕ → Bool) (xs : List X) (f : ℕ) → ((i : ℕ) → i < length xs → t i ≡ cond (ltb f i) (p (get_or xs i d)) false) → picked t xs ≡ filter p (drop (suc f) xs)
-  after t [] f h = refl
-  after t (x ∷ xs) zero h =
-      cond-false (t 0) _ _ (h 0 (omega arith)) ∙ all (λ i. t (suc i)) xs (λ i l. h (suc i) (omega arith) ∙ cond-true (ltb 0 (suc i)) (p (get_or xs i d)) false (lt-ltb 0 (suc i) (omega arith)))
-  after t (x ∷ xs) (suc f) h =
-      cond-false (t 0) _ _ (h 0 (omega arith) ∙ cond-false (ltb (suc f) 0) _ _ (le-ltb (suc f) 0 (omega arith))) ∙ after (λ i. t (suc i)) xs f (λ i l. h (suc i) (omega arith) ∙ ap (λ b. cond b (p (get_or xs i d)) false) (ltb_suc f i))
+after : {X : Type 0} (t : ℕ → Bool) (xs : List X) (f : ℕ) → ((i : ℕ) → i < length xs → t i ≡ ltb f i) → picked t xs ≡ drop (suc f) xs
+after t [] f h = refl
+after t (x ∷ xs) zero h =
+    cond-false (t 0) _ _ (h 0 (omega arith)) ∙ all (λ i. t (suc i)) xs (λ i l. h (suc i) (omega arith) ∙ lt-ltb 0 (suc i) (omega arith))
+after t (x ∷ xs) (suc f) h =
+    cond-false (t 0) _ _ (h 0 (omega arith) ∙ le-ltb (suc f) 0 (omega arith)) ∙ after (λ i. t (suc i)) xs f (λ i l. h (suc i) (omega arith) ∙ ltb_suc f i)
 
--- at one number, by whether it is carried, and how it lies to f
-above_one : (c l b : Bool) → (b ≡ true → l ≡ false) → same (cond b Absent (cond c (cond l Above Below) Absent)) Above ≡ cond l c false
-above_one true true true h = sym (h refl)
-above_one true true false h = refl
-above_one true false true h = refl
-above_one true false false h = refl
-above_one false true true h = refl
-above_one false true false h = refl
-above_one false false true h = refl
-above_one false false false h = refl
+-- at one number, by how it lies to f
+above_one : (l b : Bool) → (b ≡ true → l ≡ false) → same (cond b Absent (cond l Above Below)) Above ≡ l
+above_one true true h = sym (h refl)
+above_one true false h = refl
+above_one false true h = refl
+above_one false false h = refl
 
-below_one : (c l b : Bool) → same (cond b Absent (cond c (cond l Above Below) Absent)) Below ≡ cond (cond b false (cond l false true)) c false
-below_one true true true = refl
-below_one true true false = refl
-below_one true false true = refl
-below_one true false false = refl
-below_one false true true = refl
-below_one false true false = refl
-below_one false false true = refl
-below_one false false false = refl
+below_one : (l b : Bool) → same (cond b Absent (cond l Above Below)) Below ≡ cond b false (cond l false true)
+below_one true true = refl
+below_one true false = refl
+below_one false true = refl
+below_one false false = refl
 
 later : (i f : ℕ) → cond (eqb i f) false (cond (ltb i f) false true) ≡ ltb f i
 later i f = grind (arith, nat_tests)
@@ -66,26 +59,25 @@ later i f = grind (arith, nat_tests)
 equal_not_less : (i f : ℕ) → eqb i f ≡ true → ltb i f ≡ false
 equal_not_less i f e = grind (arith, nat_tests)
 
-module _ (k : ℕ) (rows : List Row) (places : List Place) (f : ℕ) (ranks : (j : ℕ) → j < length rows → get_or places j Absent ≡ rank k f j (get_or rows j no_row)) where
-  stands : (j : ℕ) → j < length rows → stance places f j ≡ cond (eqb j f) Absent (rank k f j (get_or rows j no_row))
+module _ (rows : List Row) (places : List Place) (f : ℕ) (long : length places ≡ length rows) (ranks : (j : ℕ) → j < length rows → get_or places j Absent ≡ cond (ltb j f) Above Below) where
+  stands : (j : ℕ) → j < length rows → stance places f j ≡ cond (eqb j f) Absent (cond (ltb j f) Above Below)
   stands j l = ap (λ q. cond (eqb j f) Absent q) (ranks j l)
 
-  pub told_above : standing Above rows places f ≡ filter (carried k) (take f rows)
+  ranked_above : rows_above rows places f ≡ take f rows
   unfolding standing
-  told_above =
-      before (carried k) no_row (λ i. same (stance places f i) Above) rows f (λ i l. ap (λ q. same q Above) (stands i l) ∙ above_one (carried k (get_or rows i no_row)) (ltb i f) (eqb i f) (equal_not_less i f))
+  ranked_above =
+      sym (standing_above rows places f long) ∙ before (λ i. same (stance places f i) Above) rows f (λ i l. ap (λ q. same q Above) (stands i l) ∙ above_one (ltb i f) (eqb i f) (equal_not_less i f))
 
-  pub told_below : standing Below rows places f ≡ filter (carried k) (drop (suc f) rows)
+  ranked_below : rows_below rows places f ≡ drop (suc f) rows
   unfolding standing
-  told_below =
-      after (carried k) no_row (λ i. same (stance places f i) Below) rows f (λ i l. ap (λ q. same q Below) (stands i l) ∙ below_one (carried k (get_or rows i no_row)) (ltb i f) (eqb i f) ∙ ap (λ b. cond b (carried k (get_or rows i no_row)) false) (later i f))
+  ranked_below =
+      sym (standing_below rows places f long) ∙ after (λ i. same (stance places f i) Below) rows f (λ i l. ap (λ q. same q Below) (stands i l) ∙ below_one (ltb i f) (eqb i f) ∙ later i f)
 
-  pub told : (response : ℕ → Row → List Row → List Row → Option ℕ) → length rows ≤ 96 → f < length rows → carried k (get_or rows f no_row) ≡ true → asked (response k) rows places f ≡ response_at response k rows f
-  unfolding asked response_at
-  told response few in_List c =
-      cond-true _ _ _ (and_from _ _ (le-leb _ _ few) (lt-ltb _ _ in_List))
-      ∙ ap₂ (λ us ls. reply (response k) (get_or rows f no_row) us ls) told_above told_below
-      ∙ sym (cond-true _ _ _ (and_from _ _ (le-leb _ _ few) (lt-ltb _ _ in_List)) ∙ cond-true _ _ _ c)
+  pub ranked_response : (response : ℕ → Row → List Row → List Row → Option ℕ) (k : ℕ) → length rows ≤ 96 → f < length rows → carried k (get_or rows f no_row) ≡ true → response_in response k (row_at rows f) (rows_above rows places f) (rows_below rows places f) ≡ response_at response k rows f
+  unfolding response_at
+  ranked_response response k few in_list c =
+      ap₂ (λ us ls. response_in response k (row_at rows f) us ls) ranked_above ranked_below
+      ∙ sym (cond-true _ _ _ (and_from _ _ (le-leb _ _ few) (lt-ltb _ _ in_list)) ∙ cond-true _ _ _ c)
 
 module _ (response : ℕ → Row → List Row → List Row → Option ℕ) (k : ℕ) (rows : List Row) (f : ℕ) where
   pub long : 96 < length rows → None ≡ response_at response k rows f

@@ -1,6 +1,6 @@
 -- The table that one domain is told, and what it is asked by it. Assumes nothing.
-use Rattle.std.proofs.Common.{◌≡◌, ℕ, zero, suc, ◌+◌, ◌-◌, ◌<◌, ◌≤◌, Bool, true, false, cond, not, eqb, ◌≢◌, ◌⊎◌, List, [], ◌∷◌, map, length, get_or, take, set, replicate, filter, Option, sym, refl, ap, ◌∙◌, subst, ap₂, inl, inr, add-zero, arith, length-set, length-take, get_or-set_other, get_or-take, get_or-set_same}
-use Rattle.std.proofs.lemmas.Bool.{cases_lt, cond-true, cond-false, le-leb, lt-ltb}
+use Rattle.std.proofs.Common.{◌≡◌, ℕ, suc, ◌+◌, ◌<◌, ◌≤◌, Bool, true, false, cond, not, ◌&&◌, eqb, leb, ltb, List, [], ◌∷◌, map, length, get_or, take, filter, None, Option, sym, refl, ap, ◌∙◌, ap₂, add-zero, arith, length-take, get_or-take}
+use Rattle.std.proofs.lemmas.Bool.{le-leb, lt-ltb}
 use Rattle.frames.specs.declared.row.Row.{Row}
 use Rattle.timing.specs.Carried.{carried}
 use Rattle.domains.specs.declared.place.Place.{Place}
@@ -8,47 +8,10 @@ use Rattle.domains.specs.declared.place.Place.TheVariants.{Above, Below, Absent}
 use Rattle.domains.specs.Asked.{same, stance, picked, standing, reply, asked, no_row}
 use Rattle.shelf.specs.Numbers.{chosen, without}
 use Rattle.timing.specs.Everywhere.{response_in}
-use Rattle.timing.specs.Places.{is_above, is_below, above, below, row_at}
+use Rattle.timing.specs.Places.{is_above, is_below, row_at, rows_above, rows_below}
 
 abbrev pub AtTold : ℕ → List Row → List Place → List Place → ℕ → Type 0
 AtTold k rows ps out j = get_or out j Above ≡ cond (carried k (row_at rows j)) (get_or ps j Above) Absent
-
-pub record Telling (k : ℕ) (rows : List Row) (ps out : List Place) (i : ℕ) : Type 0 where
-  pub wide : length out ≡ 96
-  pub past : (j : ℕ) → j < i → AtTold k rows ps out j
-  pub rest : (j : ℕ) → i ≤ j → j < 96 → get_or out j Above ≡ Absent
-
-read_out : (m j : ℕ) → j < m → get_or (replicate m Absent) j Above ≡ Absent
-read_out zero j l = absurd (omega arith)
-read_out (suc m) zero l = refl
-read_out (suc m) (suc j) l = read_out m j (omega arith)
-
-pub telling_none : (k : ℕ) (rows : List Row) (ps : List Place) → Telling k rows ps (replicate 96 Absent) 0
-telling_none k rows ps = record { wide = refl; past = λ j l. absurd (omega arith); rest = λ j l m. read_out 96 j m }
-
-module _ {k : ℕ} {rows : List Row} {ps out : List Place} {i : ℕ} (h : Telling k rows ps out i) (l : i < 96) where
-  upto : (P : ℕ → Type 0) → ((j : ℕ) → j < i → P j) → P i → (j : ℕ) → j < i + 1 → P j
-  upto P f p j m = go (cases_lt j i)
-    where
-      go : (j < i) ⊎ (i ≤ j) → P j
-      go (inl a) = f j a
-      go (inr a) = let e : i ≡ j = omega arith in subst P e p
-
-  pub telling_in : carried k (row_at rows i) ≡ true → Telling k rows ps (set out i (get_or ps i Above)) (i + 1)
-  telling_in c = record {
-    wide = length-set out i (get_or ps i Above) ∙ h.wide;
-    past = upto (AtTold k rows ps (set out i (get_or ps i Above)))
-        (λ j m. let n : j ≢ i = omega arith in get_or-set_other out i j (get_or ps i Above) Above n ∙ h.past j m)
-        (get_or-set_same out i (get_or ps i Above) Above (omega (arith, h.wide)) ∙ sym (cond-true (carried k (row_at rows i)) (get_or ps i Above) Absent c));
-    rest = λ j m n. let e : j ≢ i = omega arith in get_or-set_other out i j (get_or ps i Above) Above e ∙ h.rest j (omega arith) n;
-  }
-
-  pub telling_out : carried k (row_at rows i) ≡ false → Telling k rows ps out (i + 1)
-  telling_out c = record {
-    wide = h.wide;
-    past = upto (AtTold k rows ps out) h.past (h.rest i (omega arith) l ∙ sym (cond-false (carried k (row_at rows i)) (get_or ps i Above) Absent c));
-    rest = λ j m n. h.rest j (omega arith) n;
-  }
 
 -- the numbers chosen in the masked table
 one_told : (is : Place → Bool) → is Absent ≡ false → (b : Bool) (p y : Place) (q : ℕ → Bool) (i : ℕ) (r : List ℕ) → q i ≡ b → y ≡ cond b p Absent → cond (is y) (i ∷ filter q r) (filter q r) ≡ filter q (cond (is p) (i ∷ r) r)
@@ -119,15 +82,15 @@ below_same false Below = refl
 below_same false Absent = refl
 
 module _ (rows : List Row) (ps : List Place) (f : ℕ) (long : length ps ≡ length rows) where
-  standing_above : standing Above rows ps f ≡ map (row_at rows) (without f (above ps))
+  pub standing_above : standing Above rows ps f ≡ rows_above rows ps f
   unfolding standing
   standing_above = picked_chosen is_above (row_at rows) f 0 (λ i. same (stance ps f i) Above) rows ps long (λ j l. let e : j ≡ 0 + j = omega arith in above_same (eqb j f) (get_or ps j Absent) ∙ ap (λ k. cond (eqb k f) false (is_above (get_or ps j Absent))) e) (λ j l. let e : 0 + j ≡ j = omega arith in ap (row_at rows) e)
 
-  standing_below : standing Below rows ps f ≡ map (row_at rows) (without f (below ps))
+  pub standing_below : standing Below rows ps f ≡ rows_below rows ps f
   unfolding standing
   standing_below = picked_chosen is_below (row_at rows) f 0 (λ i. same (stance ps f i) Below) rows ps long (λ j l. let e : j ≡ 0 + j = omega arith in below_same (eqb j f) (get_or ps j Absent) ∙ ap (λ k. cond (eqb k f) false (is_below (get_or ps j Absent))) e) (λ j l. let e : 0 + j ≡ j = omega arith in ap (row_at rows) e)
 
-  asked_is : (response : Row → List Row → List Row → Option ℕ) → length rows ≤ 96 → f < length rows → asked response rows ps f ≡ reply response (row_at rows f) (map (row_at rows) (without f (above ps))) (map (row_at rows) (without f (below ps)))
+  asked_is : (response : Row → List Row → List Row → Option ℕ) → length rows ≤ 96 → f < length rows → asked response rows ps f ≡ reply response (row_at rows f) (rows_above rows ps f) (rows_below rows ps f)
   unfolding asked
   asked_is response few within =
       let x = standing_above in
@@ -136,12 +99,30 @@ module _ (rows : List Row) (ps : List Place) (f : ℕ) (long : length ps ≡ len
       let q = lt-ltb f (length rows) within in
       simp (p, q, x, y)
 
+-- places past the rows tell nothing
+picked_same : {X : Type 0} (t u : ℕ → Bool) (xs : List X) → ((j : ℕ) → j < length xs → t j ≡ u j) → picked t xs ≡ picked u xs
+picked_same t u [] h = refl
+picked_same t u (x ∷ xs) h =
+    ap₂ (λ b l. cond b (x ∷ l) l) (h 0 (omega arith)) (picked_same (λ j. t (suc j)) (λ j. u (suc j)) xs (λ j l. h (suc j) (omega arith)))
+
+module _ (rows : List Row) (ps : List Place) (f : ℕ) where
+  standing_front : (p : Place) → standing p rows ps f ≡ standing p rows (take (length rows) ps) f
+  unfolding standing
+  standing_front p =
+      picked_same (λ j. same (stance ps f j) p) (λ j. same (stance (take (length rows) ps) f j) p) rows (λ j l. ap (λ q. same (cond (eqb j f) Absent q) p) (sym (get_or-take (length rows) ps j Absent l)))
+
+  asked_front : (response : Row → List Row → List Row → Option ℕ) → asked response rows ps f ≡ asked response rows (take (length rows) ps) f
+  unfolding asked
+  asked_front response =
+      ap₂ (λ us ls. cond (leb (length rows) 96 && ltb f (length rows)) (reply response (row_at rows f) us ls) None) (standing_front Above) (standing_front Below)
+
 -- what domain k answers by the table that it is told
 pub told_response : (response : ℕ → Row → List Row → List Row → Option ℕ) (k : ℕ) (rows : List Row) (ps out : List Place) (f : ℕ) → length ps ≡ length rows → length out ≡ 96 → length rows ≤ 96 → f < length rows → ((j : ℕ) → j < length rows → AtTold k rows ps out j)
-    → asked (response k) rows (take (length rows - 0) out) f ≡ response_in response k (row_at rows f) (map (row_at rows) (without f (above ps))) (map (row_at rows) (without f (below ps)))
+    → asked (response k) rows out f ≡ response_in response k (row_at rows f) (rows_above rows ps f) (rows_below rows ps f)
 told_response response k rows ps out f long wide few within h =
-    let ys = take (length rows - 0) out in
+    let ys = take (length rows) out in
     let n : length ys ≡ length ps = simp length-take (omega arith) in
-    let m : (j : ℕ) → j < length ps → AtTold k rows ps ys j = λ j l. get_or-take (length rows - 0) out j Above (omega arith) ∙ h j (omega arith) in
-    asked_is rows ys f (n ∙ long) (response k) few within
+    let m : (j : ℕ) → j < length ps → AtTold k rows ps ys j = λ j l. get_or-take (length rows) out j Above (omega arith) ∙ h j (omega arith) in
+    asked_front rows out f (response k)
+    ∙ asked_is rows ys f (n ∙ long) (response k) few within
     ∙ ap₂ (λ us ls. reply (response k) (row_at rows f) us ls) (told_is is_above refl k rows ps ys f n m) (told_is is_below refl k rows ps ys f n m)

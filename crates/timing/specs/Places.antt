@@ -26,6 +26,13 @@ below places = chosen is_below 0 places
 abbrev pub row_at : List Row → ℕ → Row
 row_at rows n = slice_index_or rows n no_row
 
+-- the rows of the frames above frame f, and of those below it
+abbrev pub rows_above : List Row → List Place → ℕ → List Row
+rows_above rows places f = map (row_at rows) (without f (above places))
+
+abbrev pub rows_below : List Row → List Place → ℕ → List Row
+rows_below rows places f = map (row_at rows) (without f (below places))
+
 -- a test of frames, asked by their numbers
 abbrev pub by_number : {F : Type 0} → (F → List F → List F → Bool) → (ℕ → F) → ℕ → List ℕ → List ℕ → Bool
 by_number t row f us ls = t (row f) (map row us) (map row ls)

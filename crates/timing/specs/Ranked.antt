@@ -1,14 +1,8 @@
 -- Frames in order of priority. Assumes nothing.
 use Rattle.std.specs.Prelude.{ℕ, suc, cond, ◌&&◌, List, length, take, drop, None, filter, Option, nat_le, nat_lt, slice_index_or}
 use Rattle.frames.specs.declared.row.Row.{Row}
-use Rattle.domains.specs.declared.place.Place.{Place}
-use Rattle.domains.specs.declared.place.Place.TheVariants.{Above, Below, Absent}
 use Rattle.domains.specs.Asked.{reply, no_row}
 use Rattle.timing.specs.Carried.{carried}
-
--- where frame i stands to frame f in domain k
-abbrev pub rank : ℕ → ℕ → ℕ → Row → Place
-rank k f i r = cond (carried k r) (cond (nat_lt i f) Above Below) Absent
 
 -- domain k is told of the frames that it carries: those before f are above it, those after it below
 unfoldable pub response_at : (ℕ → Row → List Row → List Row → Option ℕ) → ℕ → List Row → ℕ → Option ℕ

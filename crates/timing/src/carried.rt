@@ -6,18 +6,12 @@ ghost use Rattle.timing.specs.Carried.{in_set, timely};
 pub fn carries(k: usize, set: u8) -> bool
     ensures { result ≡ in_set k set }
 {
-    if k >= 8 {
-        return false;
-    }
-    (set >> k) % 2 == 1
+    k < 8 && (set >> k) % 2 == 1
 }
 
 // An answer is in time when it is a time that is not above the deadline.
 pub fn in_time(answer: Option<u64>, deadline: u64) -> bool
     ensures { result ≡ timely answer deadline }
 {
-    match answer {
-        Some(time) => time <= deadline,
-        None => false,
-    }
+    answer.is_some_and(|time| time <= deadline)
 }

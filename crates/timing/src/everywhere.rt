@@ -1,60 +1,78 @@
 // Whether a frame is in time in all domains of its set, with the others where a table has them.
-ghost use Rattle.std.specs.Prelude.{◌≡◌, ℕ, ◌<◌, ◌≤◌, map, length, if◌then◌else◌, slice_index_or};
+ghost use Rattle.std.specs.Prelude.{◌≡◌, ℕ, ◌<◌, ◌≤◌, length, if◌then◌else◌, slice_index_or};
 ghost use Rattle.timing.specs.Carried.{carried};
 ghost use Rattle.domains.specs.declared.place.Place.TheVariants.{Above as Up, Absent as Gone};
-ghost use Rattle.shelf.specs.Numbers.{without};
-ghost use Rattle.timing.specs.Everywhere.{in_domain, everywhere};
-ghost use Rattle.timing.specs.Places.{above, below, row_at, tested};
+ghost use Rattle.timing.specs.Everywhere.{in_domain, response_in, everywhere};
+ghost use Rattle.timing.specs.Places.{row_at, rows_above, rows_below, tested};
 
 use crate::carried::{carries, in_time};
 use domains::domain::Domain;
 use domains::place::Place;
 use frames::row::Row;
+use std::array;
 
 // The numbers of the domains in a set.
 const DOMAINS: usize = 4;
 
-// The table with the frames left out that domain k does not carry.
-fn told(rows: &[Row], places: &[Place], k: usize) -> [Place; 96]
-    requires long { length places.now ≡ length rows.now }
-    requires few { length rows.now ≤ 96 }
-    ensures { (j : ℕ) → j < length rows.now → slice_index_or result j Up ≡ (if carried k (row_at rows.now j) then slice_index_or places.now j Up else Gone) }
-{
-    let mut table = [Place::Absent; 96];
-    for i in 0..rows.len() {
-        if carries(k, rows[i].set) {
-            table[i] = places[i];
-        }
-    }
-    table
+// The frames of a list, over a bank of domains.
+#[derive(Drop)]
+pub struct Frames<'a, B> {
+    pub bank: &'a B,
+    pub rows: &'a [Row],
+    pub ghost few: { length rows.now ≤ 96 },
 }
 
-// Whether frame f is in time in domain k, or not carried there.
-fn in_time_in<D: Domain>(bank: &D, rows: &[Row], places: &[Place], f: usize, k: usize) -> bool
-    requires long { length places.now ≡ length rows.now }
-    requires few { length rows.now ≤ 96 }
-    requires within { f < length rows.now }
-    ensures { result ≡ in_domain (D.response bank.now) k (row_at rows.now f) (map (row_at rows.now) (without f (above places.now))) (map (row_at rows.now) (without f (below places.now))) }
-{
-    if !carries(k, rows[f].set) {
-        return true;
-    }
-    let table = told(rows, places, k);
-    let answer = bank.answer(k, rows, &table[0..rows.len()], f);
-    in_time(answer, rows[f].deadline)
+// The same, with a table of where each frame stands.
+#[derive(Drop)]
+pub struct Trial<'a, B> {
+    pub bank: &'a B,
+    pub rows: &'a [Row],
+    pub places: &'a [Place],
+    pub ghost few: { length rows.now ≤ 96 },
+    pub ghost long: { length places.now ≡ length rows.now },
 }
 
-// Whether frame f is in time in every domain of its set.
-pub fn in_time_everywhere<D: Domain>(bank: &D, rows: &[Row], places: &[Place], f: usize) -> bool
-    requires long { length places.now ≡ length rows.now }
-    requires few { length rows.now ≤ 96 }
-    requires within { f < length rows.now }
-    ensures { result ≡ tested (everywhere (D.response bank.now)) rows.now places.now f }
-{
-    for k in 0..DOMAINS {
-        if !in_time_in(bank, rows, places, f, k) {
-            return false;
+impl<B: Domain> Trial<'_, B> {
+    // Where domain k is told that frame i stands: a frame that it does not carry is absent.
+    fn told_place(&self, k: usize, i: usize) -> Place
+        ensures { let rows = self.now.rows.now in let places = self.now.places.now in i < length rows → result ≡ (if carried k (row_at rows i) then slice_index_or places i Up else Gone) }
+    {
+        match self.rows.get(i) {
+            Some(row) if carries(k, row.set) => self.places[i],
+            _ => Place::Absent,
         }
     }
-    true
+
+    // The table with the frames left out that domain k does not carry.
+    fn told(&self, k: usize) -> [Place; 96]
+        ensures { let rows = self.now.rows.now in let places = self.now.places.now in (j : ℕ) → j < length rows → slice_index_or result j Up ≡ (if carried k (row_at rows j) then slice_index_or places j Up else Gone) }
+    {
+        array::from_fn(|i| self.told_place(k, i))
+    }
+
+    // How late frame f can be in domain k.
+    pub(crate) fn response_in(&self, f: usize, k: usize) -> Option<u64>
+        requires { f < length self.now.rows.now }
+        ensures { let rows = self.now.rows.now in let places = self.now.places.now in result ≡ response_in (B.response self.now.bank.now) k (row_at rows f) (rows_above rows places f) (rows_below rows places f) }
+    {
+        let table = self.told(k);
+        self.bank.answer(k, self.rows, &table, f)
+    }
+
+    // Whether frame f is in time in domain k, or not carried there.
+    fn in_time_in(&self, f: usize, k: usize) -> bool
+        requires { f < length self.now.rows.now }
+        ensures { let rows = self.now.rows.now in let places = self.now.places.now in result ≡ in_domain (B.response self.now.bank.now) k (row_at rows f) (rows_above rows places f) (rows_below rows places f) }
+    {
+        let row = &self.rows[f];
+        !carries(k, row.set) || in_time(self.response_in(f, k), row.deadline)
+    }
+
+    // Whether frame f is in time in every domain of its set.
+    pub fn in_time(&self, f: usize) -> bool
+        requires { f < length self.now.rows.now }
+        ensures { let rows = self.now.rows.now in let places = self.now.places.now in result ≡ tested (everywhere (B.response self.now.bank.now)) rows places f }
+    {
+        (0..DOMAINS).all(|k| self.in_time_in(f, k))
+    }
 }

@@ -8,32 +8,31 @@ use Rattle.ordering.proofs.Dropping.{dropping_none, dropping_kept, dropping_out,
 use Rattle.ordering.proofs.conflicts.find_conflict.Goals as goal
 use Rattle.ordering.proofs.conflicts.find_conflict.Goals.{then-not-has_order, else-not-has_order}
 
-pub loop-i-init : goal.loop-i-init
-loop-i-init g c = dropping_none (orderable (by_number (everywhere (g.B.Domain.response c.args.bank.now)) (row_at c.args.rows.now))) c.args.rows.now c.requires
+pub loop-f-init : goal.loop-f-init
+loop-f-init g c = dropping_none (orderable (by_number (everywhere (g.B.Domain.response c.args.frames.now.bank.now)) (row_at c.args.frames.now.rows.now))) c.args.frames.now.rows.now c.args.frames.now.few
 
 pub overflow_sub-size : goal.overflow_sub-size
-overflow_sub-size g c = omega (arith, trial_count c.loop-i.invariant c.loop-i-test.true)
+overflow_sub-size g c = omega (arith, trial_count c.loop-f.invariant c.loop-f-test.true)
 
 pub has_order-requires : goal.has_order-requires
 has_order-requires g c = record {
-  few = c.requires;
-  free = omega (arith, trial_count c.loop-i.invariant c.loop-i-test.true);
-  none = trial_none c.loop-i.invariant c.loop-i-test.true;
+  free = omega (arith, trial_count c.loop-f.invariant c.loop-f-test.true);
+  none = trial_none c.loop-f.invariant c.loop-f-test.true;
 }
 
 -- the answer is the one of the definition
-told : (g : _) (c : goal.Joined-not-has_order g) → orderable (by_number (everywhere (g.B.Domain.response c.args.bank.now)) (row_at c.args.rows.now)) (above (take (length c.args.rows.now) (set c.loop-i.table c.loop-i.i Absent))) ≡ c.has_order.result
+told : (g : _) (c : goal.Joined-not-has_order g) → orderable (by_number (everywhere (g.B.Domain.response c.args.frames.now.bank.now)) (row_at c.args.frames.now.rows.now)) (above (take (length c.args.frames.now.rows.now) (set c.loop-f.table c.loop-f.f Absent))) ≡ c.has_order.result
 told g c =
-    let n : length (above (take (length c.args.rows.now) (set c.loop-i.table c.loop-i.i Absent))) ≡ c.loop-i.size - 1 = omega (arith, trial_count c.loop-i.invariant c.loop-i-test.true) in
-    ap (λ k. is_some (greedy (by_number (everywhere (g.B.Domain.response c.args.bank.now)) (row_at c.args.rows.now)) k (above (take (length c.args.rows.now) (set c.loop-i.table c.loop-i.i Absent))) [])) n ∙ sym c.has_order.ensures
+    let n : length (above (take (length c.args.frames.now.rows.now) (set c.loop-f.table c.loop-f.f Absent))) ≡ c.loop-f.size - 1 = omega (arith, trial_count c.loop-f.invariant c.loop-f-test.true) in
+    ap (λ k. is_some (greedy (by_number (everywhere (g.B.Domain.response c.args.frames.now.bank.now)) (row_at c.args.frames.now.rows.now)) k (above (take (length c.args.frames.now.rows.now) (set c.loop-f.table c.loop-f.f Absent))) [])) n ∙ sym c.has_order.ensures
 
-pub loop-i-preserved : goal.loop-i-preserved
-loop-i-preserved g c = elim c.if-not-has_order.branch [
-  | then-not-has_order w ↦ rw (w.table-is, w.size-is) (dropping_out c.loop-i.invariant c.loop-i-test.true (told g c ∙ w.if-not-has_order.true))
-  | else-not-has_order w ↦ rw (w.table-is, w.size-is) (dropping_kept c.loop-i.invariant c.loop-i-test.true (told g c ∙ w.if-not-has_order.false))
+pub loop-f-preserved : goal.loop-f-preserved
+loop-f-preserved g c = elim c.if-not-has_order.branch [
+  | then-not-has_order w ↦ rw (w.table-is, w.size-is) (dropping_out c.loop-f.invariant c.loop-f-test.true (told g c ∙ w.if-not-has_order.true))
+  | else-not-has_order w ↦ rw (w.table-is, w.size-is) (dropping_kept c.loop-f.invariant c.loop-f-test.true (told g c ∙ w.if-not-has_order.false))
 ]
 
 pub returns : goal.returns
 returns g c =
-    let e = dropping_all c.loop-i.invariant c.loop-i-test.false in
-    record { table = e; rest = c.loop-i.invariant.tail; size = sym c.loop-i.invariant.count ∙ ap length e }
+    let e = dropping_all c.loop-f.invariant c.loop-f-test.false in
+    record { table = e; rest = c.loop-f.invariant.tail; size = sym c.loop-f.invariant.count ∙ ap length e }

@@ -1,36 +1,38 @@
+use native.Mathlib.Nat.{sub-zero}
 use Rattle.timing.specs.Everywhere.{everywhere}
 use Rattle.timing.proofs.Combining.{everywhere_laws}
-use Rattle.std.proofs.Common.{sym, ◌∙◌, arith}
+use Rattle.std.proofs.Common.{◌<◌, length, sym, ◌∙◌, arith}
 use Rattle.timing.specs.Places.{above, tested}
 use Rattle.ordering.proofs.Greedy.{examined_most}
 use Rattle.ordering.proofs.Placing.{placing_none, placing_more, placing_end, placing_all, frame_within}
 use Rattle.ordering.proofs.places.arrange.Goals as goal
 
-pub loop-left-init : goal.loop-left-init
-loop-left-init g c = placing_none (everywhere (g.B.Domain.response c.args.bank.now)) c.args.rows.now c.args.places.now c.args.order.now c.args.count c.requires.long c.told-order c.requires.fits c.requires.free c.requires.none
+pub loop-places-init : goal.loop-places-init
+loop-places-init g c =
+    rw (c.new.ensures, sub-zero) (placing_none _ c.args.frames.now.rows.now c.args.places.now c.args.count c.requires.long c.args.frames.now.few c.requires.free c.requires.none)
 
-pub overflow_add-examinations : goal.overflow_add-examinations
-overflow_add-examinations g c =
-    let test = tested (everywhere (g.B.Domain.response c.args.bank.now)) c.args.rows.now c.loop-left.places in
-    omega (arith, c.loop-left.invariant.few, c.loop-left.invariant.free, c.loop-left.invariant.most, c.loop-left.invariant.fits, c.examine-looked.ensures.examinations, examined_most test (above c.loop-left.places))
+pub overflow_add-placement : goal.overflow_add-placement
+overflow_add-placement g c =
+    let test = tested (everywhere (g.B.Domain.response c.args.frames.now.bank.now)) c.args.frames.now.rows.now c.loop-places.places in
+    omega (arith, c.loop-places.invariant.few, c.loop-places.invariant.free, c.loop-places.invariant.whole, c.loop-places.invariant.most, c.examine-looked.ensures.examinations, examined_most test (above c.loop-places.places))
 
 pub bounds-places-f : goal.bounds-places-f
-bounds-places-f g c = frame_within (tested (everywhere (g.B.Domain.response c.args.bank.now)) c.args.rows.now c.loop-left.places) c.loop-left.places c.in-Some.f (sym c.examine-looked.ensures.frame ∙ c.in-Some.is)
+bounds-places-f g c = frame_within (tested (everywhere (g.B.Domain.response c.args.frames.now.bank.now)) c.args.frames.now.rows.now c.loop-places.places) c.loop-places.places c.in_ok-f.f (sym c.examine-looked.ensures.frame ∙ c.in_ok-f.was)
 
-pub overflow_cast-order : goal.overflow_cast-order
-overflow_cast-order g c =
-    let w = frame_within (tested (everywhere (g.B.Domain.response c.args.bank.now)) c.args.rows.now c.loop-left.places) c.loop-left.places c.in-Some.f (sym c.examine-looked.ensures.frame ∙ c.in-Some.is) in
+pub overflow_cast-f : goal.overflow_cast-f
+overflow_cast-f g c =
+    let w = frame_within (tested (everywhere (g.B.Domain.response c.args.frames.now.bank.now)) c.args.frames.now.rows.now c.loop-places.places) c.loop-places.places c.in_ok-f.f (sym c.examine-looked.ensures.frame ∙ c.in_ok-f.was) in
     omega arith
 
-pub loop-left-preserved : goal.loop-left-preserved
-loop-left-preserved g c =
-    rw c.examine-looked.ensures.examinations (placing_more (everywhere_laws g.met.B.Domain.duties c.args.bank.now) c.loop-left-test.true c.loop-left.invariant c.in-Some.f (sym c.examine-looked.ensures.frame ∙ c.in-Some.is))
+pub loop-places-preserved : goal.loop-places-preserved
+loop-places-preserved g c =
+    let room : length c.loop-places.placement.numbers.items < c.args.count = omega arith in
+    rw (c.insert.ensures.items, c.examine-looked.ensures.examinations) (placing_more c.loop-places.invariant (everywhere_laws g.met.B.Domain.duties c.args.frames.now.bank.now) room c.in_ok-f.f (sym c.examine-looked.ensures.frame ∙ c.in_ok-f.was))
 
-pub returns-in-None : goal.returns-in-None
-returns-in-None g c = record {
-  rest = c.loop-left.invariant.tail;
-  arranged = placing_end (everywhere_laws g.met.B.Domain.duties c.args.bank.now) c.loop-left-test.true c.loop-left.invariant (sym c.examine-looked.ensures.frame ∙ c.in-None.is);
-}
+pub returns-in_err-f : goal.returns-in_err-f
+returns-in_err-f g c =
+    let room : length c.loop-places.placement.numbers.items < c.args.count = omega arith in
+    rw c.from_residual.ensures (placing_end c.loop-places.invariant (everywhere_laws g.met.B.Domain.duties c.args.frames.now.bank.now) room (sym c.examine-looked.ensures.frame ∙ c.in_err-f.was))
 
 pub returns : goal.returns
-returns g c = record { rest = c.loop-left.invariant.tail; arranged = placing_all c.loop-left-test.false c.loop-left.invariant }
+returns g c = placing_all c.loop-places.invariant (omega arith)

@@ -3,5 +3,5 @@ use Rattle.timing.specs.Places.{tested, is_above}
 use Rattle.ordering.proofs.Looking.{Looking}
 use Rattle.ordering.proofs.places.examine.Given as goal
 
-abbrev pub invariant-loop-i : goal.invariant-loop-i
-invariant-loop-i g l = Looking is_above (tested (everywhere (g.B.Domain.response l.bank)) l.rows l.places) l.places l.i l.examinations
+abbrev pub invariant-loop-f : goal.invariant-loop-f
+invariant-loop-f g l = Looking is_above (tested (everywhere (g.B.Domain.response l.trial.bank.now)) l.trial.rows.now l.trial.places.now) l.trial.places.now l.f l.examinations
