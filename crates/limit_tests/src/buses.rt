@@ -1,4 +1,5 @@
 // Runs of banks with a bus: frames in order of priority, the last of three frames, and a bus that is never idle.
+use crate::asking::about;
 use bus::bus::Bus;
 use domains::domain::Domain;
 use domains::pair::Pair;
@@ -63,15 +64,27 @@ fn three_frames_in_a_bank_of_four(rt: HostRuntime) -> Result<(), Fail> {
     let rows = [row(2_840_000), row(3_976_000), row(3_976_000)];
     let places = [Place::Above, Place::Above, Place::Absent];
     assert_eq!(rt; bank.count(), 4);
-    assert_eq!(rt; bank.answer(0, &rows, &places, 2), Some(3_976_000), "bus");
     assert_eq!(rt;
-        bank.answer(1, &rows, &places, 2),
+        bank.answer(0, &about(&rows, &places, 2)),
+        Some(3_976_000),
+        "bus"
+    );
+    assert_eq!(rt;
+        bank.answer(1, &about(&rows, &places, 2)),
         Some(3_976_000),
         "second bus"
     );
-    assert_eq!(rt; bank.answer(2, &rows, &places, 2), Some(62_400), "gateway");
-    assert_eq!(rt; bank.answer(3, &rows, &places, 2), Some(2_100_000), "radio");
-    assert_eq!(rt; bank.answer(4, &rows, &places, 2), None, "outside");
+    assert_eq!(rt;
+        bank.answer(2, &about(&rows, &places, 2)),
+        Some(62_400),
+        "gateway"
+    );
+    assert_eq!(rt;
+        bank.answer(3, &about(&rows, &places, 2)),
+        Some(2_100_000),
+        "radio"
+    );
+    assert_eq!(rt; bank.answer(4, &about(&rows, &places, 2)), None, "outside");
     Ok(())
 }
 
@@ -80,11 +93,15 @@ fn instances_of_a_busy_period(rt: HostRuntime) -> Result<(), Fail> {
     let bus = Bus::new(8_000, 8_000)?;
     let rows = [row(2_840_000), row(3_976_000), row(3_976_000)];
     let places = [Place::Above, Place::Above, Place::Absent];
-    assert_eq!(rt; bus.busy_period(&rows, &places, 2), Some(7_952_000));
-    assert_eq!(rt; bus.instance(&rows, &places, 2, 0), Some(3_408_000));
-    assert_eq!(rt; bus.instance(&rows, &places, 2, 1), Some(3_976_000));
-    assert_eq!(rt; bus.instance(&rows, &places, 2, 2), None);
-    assert_eq!(rt; bus.busy_period(&rows, &places, 3), None, "not in the list");
+    assert_eq!(rt; bus.busy_period(&about(&rows, &places, 2)), Some(7_952_000));
+    assert_eq!(rt; bus.instance(&about(&rows, &places, 2), 0), Some(3_408_000));
+    assert_eq!(rt; bus.instance(&about(&rows, &places, 2), 1), Some(3_976_000));
+    assert_eq!(rt; bus.instance(&about(&rows, &places, 2), 2), None);
+    assert_eq!(rt;
+        bus.busy_period(&about(&rows, &places, 3)),
+        None,
+        "not in the list"
+    );
     Ok(())
 }
 
@@ -93,9 +110,9 @@ fn instances_of_a_busy_period(rt: HostRuntime) -> Result<(), Fail> {
 fn never_idle(rt: HostRuntime) -> Result<(), Fail> {
     let bus = Bus::new(8_000, 8_000)?;
     let rows = [row(1_000_000), row(1_000_000)];
-    assert_eq!(rt; bus.answer(0, &rows, &[Place::Above], 1), None);
-    assert_eq!(rt; bus.busy_period(&rows, &[Place::Above], 1), None);
-    assert_eq!(rt; bus.instance(&rows, &[Place::Above], 1, 0), None);
+    assert_eq!(rt; bus.answer(0, &about(&rows, &[Place::Above], 1)), None);
+    assert_eq!(rt; bus.busy_period(&about(&rows, &[Place::Above], 1)), None);
+    assert_eq!(rt; bus.instance(&about(&rows, &[Place::Above], 1), 0), None);
     Ok(())
 }
 
@@ -105,13 +122,13 @@ fn in_each_others_way(rt: HostRuntime) -> Result<(), Fail> {
     let bus = Bus::new(2_000, 500)?;
     let rows = [row(1_000_000), row(1_000_000)];
     assert_eq!(rt;
-        bus.answer(0, &rows, &[Place::Above, Place::Below], 0),
+        bus.answer(0, &about(&rows, &[Place::Above, Place::Below], 0)),
         Some(244_000)
     );
     assert_eq!(rt;
-        bus.answer(0, &rows, &[Place::Above, Place::Below], 1),
+        bus.answer(0, &about(&rows, &[Place::Above, Place::Below], 1)),
         Some(244_000)
     );
-    assert_eq!(rt; bus.answer(0, &rows, &[], 0), Some(122_000));
+    assert_eq!(rt; bus.answer(0, &about(&rows, &[], 0)), Some(122_000));
     Ok(())
 }

@@ -1,4 +1,5 @@
 // Questions to banks: which have an answer, and which have none.
+use crate::asking::about;
 use domains::domain::Domain;
 use domains::pair::Pair;
 use domains::place::Place;
@@ -27,14 +28,23 @@ fn numbers_of_a_bank(rt: HostRuntime) -> Result<(), Fail> {
     let bank = Pair::new(gateway, radio);
     let rows = [row(64), row(8)];
     let places = [Place::Above, Place::Absent];
-    let Some(frame) = Frame::of(&rows[1]) else {
-        assert!(rt; false);
-        return Ok(());
-    };
+    let frame = Frame::try_from(rows[1])?;
     assert_eq!(rt; bank.count(), 2);
-    assert_eq!(rt; bank.answer(0, &rows, &places, 1), Some(47_200), "gateway");
-    assert_eq!(rt; bank.answer(1, &rows, &places, 1), Some(4_200_000), "radio");
-    assert_eq!(rt; bank.answer(2, &rows, &places, 1), None, "outside the bank");
+    assert_eq!(rt;
+        bank.answer(0, &about(&rows, &places, 1)),
+        Some(47_200),
+        "gateway"
+    );
+    assert_eq!(rt;
+        bank.answer(1, &about(&rows, &places, 1)),
+        Some(4_200_000),
+        "radio"
+    );
+    assert_eq!(rt;
+        bank.answer(2, &about(&rows, &places, 1)),
+        None,
+        "outside the bank"
+    );
     assert_eq!(rt; bank.cost(0, &frame), 20_800);
     assert_eq!(rt; bank.cost(1, &frame), 700_000);
     assert_eq!(rt; bank.cost(2, &frame), 0);
@@ -46,15 +56,12 @@ fn more_than_four(rt: HostRuntime) -> Result<(), Fail> {
     let link = Radio::new(50_000)?;
     let three = Pair::new(Pair::new(link, link), link);
     let six = Pair::new(three, three);
-    let Some(frame) = Frame::of(&row(8)) else {
-        assert!(rt; false);
-        return Ok(());
-    };
+    let frame = Frame::try_from(row(8))?;
     assert_eq!(rt; six.count(), 4);
     assert_eq!(rt; six.cost(3, &frame), 700_000);
     assert_eq!(rt; six.cost(4, &frame), 0);
-    assert_eq!(rt; six.answer(3, &[row(8)], &[], 0), Some(700_000));
-    assert_eq!(rt; six.answer(4, &[row(8)], &[], 0), None);
+    assert_eq!(rt; six.answer(3, &about(&[row(8)], &[], 0)), Some(700_000));
+    assert_eq!(rt; six.answer(4, &about(&[row(8)], &[], 0)), None);
     Ok(())
 }
 
@@ -63,27 +70,35 @@ fn no_answer(rt: HostRuntime) -> Result<(), Fail> {
     let radio = Radio::new(10_000)?;
     let many = [row(1); 96];
     let more = [row(1); 97];
-    assert_eq!(rt; radio.answer(0, &many, &[], 95), Some(70_000), "96 rows");
-    assert_eq!(rt; radio.answer(0, &more, &[], 0), None, "97 rows");
-    assert_eq!(rt; radio.answer(0, &many, &[], 96), None, "not in the list");
+    assert_eq!(rt;
+        radio.answer(0, &about(&many, &[], 95)),
+        Some(70_000),
+        "96 rows"
+    );
+    assert_eq!(rt; radio.answer(0, &about(&more, &[], 0)), None, "97 rows");
+    assert_eq!(rt;
+        radio.answer(0, &about(&many, &[], 96)),
+        None,
+        "not in the list"
+    );
     let rows = [row(1), row(0)];
     assert_eq!(rt;
-        radio.answer(0, &rows, &[], 1),
+        radio.answer(0, &about(&rows, &[], 1)),
         None,
         "its own row is unlawful"
     );
     assert_eq!(rt;
-        radio.answer(0, &rows, &[Place::Absent, Place::Above], 0),
+        radio.answer(0, &about(&rows, &[Place::Absent, Place::Above], 0)),
         None,
         "an unlawful row above"
     );
     assert_eq!(rt;
-        radio.answer(0, &rows, &[Place::Absent, Place::Below], 0),
+        radio.answer(0, &about(&rows, &[Place::Absent, Place::Below], 0)),
         None,
         "an unlawful row below"
     );
     assert_eq!(rt;
-        radio.answer(0, &rows, &[Place::Absent, Place::Absent], 0),
+        radio.answer(0, &about(&rows, &[Place::Absent, Place::Absent], 0)),
         Some(70_000),
         "it is not told of"
     );

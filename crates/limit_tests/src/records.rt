@@ -12,7 +12,7 @@ const LAWFUL: Row = Row {
 };
 
 fn passes(row: Row) -> bool {
-    Frame::of(&row).is_some()
+    Frame::try_from(row).is_ok()
 }
 
 #[test]

@@ -8,6 +8,7 @@ ghost use Rattle.relief.specs.Gains.{Gains};
 
 use domains::domain::Domain;
 use domains::place::Place;
+use domains::question::Question;
 use frames::row::Row;
 
 // The places with frame i left out; a number that is not in the table leaves them as they are.
@@ -15,7 +16,7 @@ fn left_out(places: [Place; 96], i: usize) -> [Place; 96]
     ensures { result ≡ slice_set places i Gone }
 {
     let mut without = places;
-    if i < 96 {
+    if i < without.len() {
         without[i] = Place::Absent;
     }
     without
@@ -32,8 +33,17 @@ pub fn relief<D: Domain>(
 ) -> Option<u64>
     ensures { Gains (asked (D.response domain.now k) rows.now places f) (asked (D.response domain.now k) rows.now (slice_set places i Gone) f) result }
 {
-    let before = domain.answer(k, rows, &places, f)?;
     let without = left_out(places, i);
-    let after = domain.answer(k, rows, &without, f).unwrap();
+    let question = Question {
+        rows,
+        places: &places,
+        frame: f,
+    };
+    let before = domain.answer(k, &question)?;
+    let question = Question {
+        places: &without,
+        ..question
+    };
+    let after = domain.answer(k, &question).unwrap();
     Some(before - after)
 }

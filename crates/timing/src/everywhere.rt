@@ -6,13 +6,11 @@ ghost use Rattle.timing.specs.Everywhere.{in_domain, response_in, everywhere};
 ghost use Rattle.timing.specs.Places.{row_at, rows_above, rows_below, tested};
 
 use crate::carried::{carries, in_time};
-use domains::domain::Domain;
+use domains::domain::{Domain, MOST_DOMAINS};
 use domains::place::Place;
+use domains::question::Question;
 use frames::row::Row;
 use std::array;
-
-// The numbers of the domains in a set.
-const DOMAINS: usize = 4;
 
 // The frames of a list, over a bank of domains.
 #[derive(Drop)]
@@ -56,7 +54,12 @@ impl<B: Domain> Trial<'_, B> {
         ensures { let rows = self.now.rows.now in let places = self.now.places.now in result ≡ response_in (B.response self.now.bank.now) k (row_at rows f) (rows_above rows places f) (rows_below rows places f) }
     {
         let table = self.told(k);
-        self.bank.answer(k, self.rows, &table, f)
+        let question = Question {
+            rows: self.rows,
+            places: &table,
+            frame: f,
+        };
+        self.bank.answer(k, &question)
     }
 
     // Whether frame f is in time in domain k, or not carried there.
@@ -73,6 +76,6 @@ impl<B: Domain> Trial<'_, B> {
         requires { f < length self.now.rows.now }
         ensures { let rows = self.now.rows.now in let places = self.now.places.now in result ≡ tested (everywhere (B.response self.now.bank.now)) rows places f }
     {
-        (0..DOMAINS).all(|k| self.in_time_in(f, k))
+        (0..MOST_DOMAINS).all(|k| self.in_time_in(f, k))
     }
 }

@@ -3,6 +3,7 @@ use crate::truck::Line;
 use anyhow::anyhow;
 use domains::domain::Domain;
 use frames::frame::Frame;
+use frames::row::Row;
 use plan::closed::Closed;
 use weights::weigh::frame_weight;
 
@@ -30,7 +31,7 @@ fn print_frame<D: Domain>(
     n: usize,
     frame: &Frame,
 ) -> anyhow::Result<()> {
-    let row = frame.row();
+    let row = Row::from(*frame);
     let payload = frame.payload();
     let weight = frame_weight(bank, frame);
     print!(rt;

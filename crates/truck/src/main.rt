@@ -1,19 +1,17 @@
 // Takes a small truck from its signals to identifiers and response times, and an overloaded one to its conflict.
 #![tactic(auto)]
 
-mod busy;
 mod calls;
 mod contents;
 mod outcome;
 mod truck;
 
-use anyhow::anyhow;
 use bus::bus::Bus;
-use busy::{BIT, print_busy_period};
 use calls::print_calls;
 use contents::print_packing;
 use outcome::print_outcome;
 use plan::draft::Draft;
+use shown::{BIT, print_busy_period};
 use truck::{Bank, Line, SCANNERS, SIGNALS, bank, signal};
 
 fn enter_all(rt: &HostRuntime, draft: &mut Draft<Bank>, lines: &[Line]) -> anyhow::Result<()> {
@@ -38,12 +36,8 @@ fn print_plan(rt: &HostRuntime, bank: Bank, more: &[Line]) -> anyhow::Result<()>
 }
 
 fn run(rt: &HostRuntime) -> anyhow::Result<()> {
-    let Ok(bus) = Bus::new(BIT, BIT) else {
-        return Err(anyhow!("a figure of the bus is outside its limits"));
-    };
-    let Ok(bank) = bank() else {
-        return Err(anyhow!("a figure of the truck's bank is outside its limits"));
-    };
+    let bus = Bus::new(BIT, BIT)?;
+    let bank = bank()?;
     println!(rt; "A truck with two buses, a gateway and a radio link:")?;
     print_plan(rt, bank, &[])?;
     println!(rt)?;

@@ -1,16 +1,13 @@
 // Prints the order of a plan with each frame's responses, or the frames that are in each other's way.
 use crate::truck::domain_name;
-use domains::domain::Domain;
+use domains::domain::{Domain, MOST_DOMAINS};
 use plan::closed::Closed;
 use plan::closed::order::Counted;
 use plan::fault::PlanFault;
 
-// The numbers of the domains of a bank.
-const DOMAINS: usize = 4;
-
 // How late frame n can be in each domain that carries it.
 fn print_responses<D: Domain>(rt: &HostRuntime, plan: &Closed<D>, n: usize) -> anyhow::Result<()> {
-    for k in 0..DOMAINS {
+    for k in 0..MOST_DOMAINS {
         if let Ok(time) = plan.response(n, k) {
             let name = domain_name(k);
             print!(rt; "  {name} {time}")?;

@@ -38,7 +38,7 @@ overflow_sub-known c = omega (arith, c.delay_of.ensures.begins)
 pub loop-q-preserved : goal.loop-q-preserved
 loop-q-preserved c =
     let time = (c.delay_of.result + c.args.view.now.own.cost) - c.loop-q.q * c.args.view.now.own.period in
-    instances_more c.args.self.now.arbitration c.args.view.now.own c.args.view.now.above.streams.now c.largest_cost-b.result (all_fit _ c.args.view.now.above.fit) c.loop-q.q c.delay_of.result c.delay_of.ensures.is c.loop-q.worst c.loop-q.known _ _ c.loop-q.invariant refl c.max-worst.ensures
+    instances_more c.args.self.now.arbitration c.args.view.now.own c.args.view.now.above.streams.now c.largest_cost-b.result (all_fit _ c.args.view.now.above.fit) c.loop-q.q c.delay_of.result c.delay_of.ensures.is c.loop-q.worst c.loop-q.known _ _ c.loop-q.invariant refl (omega arith)
 
 pub returns : goal.returns
 returns c =

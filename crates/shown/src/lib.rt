@@ -1,8 +1,11 @@
-// Takes the last of three frames on a CAN FD bus through its busy period, instance by instance.
+// What the programs print alike: the last of three frames on a CAN FD bus taken through its busy period.
+#![tactic(auto)]
+
 use anyhow::anyhow;
 use bus::bus::Bus;
 use domains::domain::Domain;
 use domains::place::Place;
+use domains::question::Question;
 use frames::frame::Frame;
 use frames::row::Row;
 
@@ -41,11 +44,11 @@ const ABOVE: [Place; 3] = [Place::Above, Place::Above, Place::Absent];
 const MOST_INSTANCES: u64 = 4_000;
 
 // Prints each instance of the last frame's busy period, counted from 1, and gives the number of the latest.
-fn print_instances(rt: &HostRuntime, bus: &Bus) -> anyhow::Result<u64> {
+fn print_instances(rt: &HostRuntime, bus: &Bus, question: &Question<'_>) -> anyhow::Result<u64> {
     let mut latest: u64 = 0;
     let mut worst: u64 = 0;
     for q in 0..MOST_INSTANCES {
-        let Some(time) = bus.instance(&THREE, &ABOVE, 2, q) else {
+        let Some(time) = bus.instance(question, q) else {
             break;
         };
         let number = q + 1;
@@ -59,20 +62,23 @@ fn print_instances(rt: &HostRuntime, bus: &Bus) -> anyhow::Result<u64> {
 }
 
 pub fn print_busy_period(rt: &HostRuntime, bus: &Bus) -> anyhow::Result<()> {
+    let question = Question {
+        rows: &THREE,
+        places: &ABOVE,
+        frame: 2,
+    };
     println!(rt; "The last of three frames on a CAN FD bus, all bits {BIT} ns:")?;
-    let Some(frame) = Frame::of(&THREE[2]) else {
-        return Err(anyhow!("a frame is outside the limits of a record"));
-    };
-    let Some(busy) = bus.busy_period(&THREE, &ABOVE, 2) else {
-        return Err(anyhow!("the bus has no busy period that ends"));
-    };
+    let frame = Frame::try_from(THREE[2])?;
+    let busy = bus
+        .busy_period(&question)
+        .ok_or_else(|| anyhow!("the bus has no busy period that ends"))?;
     let cost = bus.cost(0, &frame);
     println!(rt; "cost           {cost:>8}")?;
     println!(rt; "busy period    {busy:>8}")?;
-    let latest = print_instances(rt, bus)?;
-    let Some(answer) = bus.answer(0, &THREE, &ABOVE, 2) else {
-        return Err(anyhow!("the bus has no answer"));
-    };
+    let latest = print_instances(rt, bus, &question)?;
+    let answer = bus
+        .answer(0, &question)
+        .ok_or_else(|| anyhow!("the bus has no answer"))?;
     println!(rt; "response time  {answer:>8}")?;
     match latest {
         1 => println!(rt; "The first instance is the late one.")?,
