@@ -1,5 +1,5 @@
 // A frame as it lies in a table or a list: plain, and not yet checked.
-#[derive(Clone, Copy, PartialEq, Eq, Debug)]
+#[derive(Clone, Copy, PartialEq, Eq, Debug, Default)]
 pub struct Row {
     // The control box that sends it.
     pub sender: u8,
