@@ -1,4 +1,4 @@
--- The search for a name and for a frame. Assumes nothing.
+-- The search for a name. Assumes nothing.
 use Rattle.std.proofs.Common.{◌≡◌, ℕ, ◌+◌, ◌<◌, ◌≤◌, true, ◌||◌, eqb, List, [], ◌∷◌, ◌++◌, length, get_or, drop, Some, None, sym, ap, ◌∙◌, ⊎_elim, arith}
 use Rattle.std.specs.List.{AllByRecursion}
 use Rattle.std.proofs.lemmas.List.{at_drop_more}
@@ -7,21 +7,6 @@ use Rattle.signals.specs.declared.signal.Entry.{Entry}
 use Rattle.signals.specs.Names.{place_of, names, no_entry}
 use Rattle.signals.specs.Riders.{any_in}
 use Rattle.shelf.proofs.Options.{some_same, some_none}
-
-module _ (x : ℕ) (es : List Entry) (i : ℕ) (within : i < length es) where
-  pub found_here : (get_or es i no_entry).signal.name ≡ x → place_of x i (drop i es) ≡ Some i
-  found_here h = at_drop_more (place_of x i) es i no_entry within ∙ cond-true _ _ _ (eq-eqb _ _ h)
-
-  pub found_later : ((get_or es i no_entry).signal.name ≡ x → ⊥) → place_of x i (drop i es) ≡ place_of x (i + 1) (drop (i + 1) es)
-  found_later h = at_drop_more (place_of x i) es i no_entry within ∙ cond-false _ _ _ (ne_eqb _ _ h)
-
-module _ (n : ℕ) (es : List Entry) (i : ℕ) (within : i < length es) where
-  pub any_here : (get_or es i no_entry).frame ≡ n → any_in n (drop i es) ≡ true
-  any_here h = at_drop_more (any_in n) es i no_entry within ∙ or_left _ _ (eq-eqb _ _ h)
-
-  pub any_later : ((get_or es i no_entry).frame ≡ n → ⊥) → any_in n (drop i es) ≡ any_in n (drop (i + 1) es)
-  any_later h =
-      at_drop_more (any_in n) es i no_entry within ∙ ap (λ t. t || any_in n (drop (i + 1) es)) (ne_eqb _ _ h)
 
 pub found_within : (x i j : ℕ) (es : List Entry) → place_of x i es ≡ Some j → (i ≤ j) × (j < i + length es)
 found_within x i j [] e = some_none j (sym e)

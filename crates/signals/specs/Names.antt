@@ -1,11 +1,11 @@
 -- Signals by their names. Assumes nothing.
-use Rattle.std.specs.Prelude.{ℕ, ◌+◌, cond, List, [], ◌∷◌, map, Some, None, Option, ◌==◌}
+use Rattle.std.specs.Prelude.{ℕ, List, map, Option, ◌==◌}
+use Rattle.std.specs.List.{position_from}
 use Rattle.signals.specs.declared.signal.Entry.{Entry}
 
 -- the place of the first signal that has the name, counted from i
 abbrev pub place_of : ℕ → ℕ → List Entry → Option ℕ
-place_of name i [] = None
-place_of name i (e ∷ es) = cond (e.signal.name == name) (Some i) (place_of name (i + 1) es)
+place_of name i es = position_from (λ e. e.signal.name == name) i es
 
 abbrev pub names : List Entry → List ℕ
 names es = map (λ e. e.signal.name) es

@@ -9,22 +9,12 @@ use crate::signal::Entry;
 pub fn find(entries: &[Entry], name: u16) -> Option<usize>
     ensures { result ≡ place_of name 0 entries.now }
 {
-    for (i, entry) in entries.iter().enumerate() {
-        if entry.signal.name == name {
-            return Some(i);
-        }
-    }
-    None
+    entries.iter().position(|entry| entry.signal.name == name)
 }
 
 // Whether some signal rides in frame n.
 pub fn has_rider(entries: &[Entry], n: usize) -> bool
     ensures { result ≡ any_in n entries.now }
 {
-    for entry in entries {
-        if entry.frame == n {
-            return true;
-        }
-    }
-    false
+    entries.iter().any(|entry| entry.frame == n)
 }

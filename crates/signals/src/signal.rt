@@ -1,5 +1,5 @@
 // A signal as a planner gives it, and as a plan keeps it, with the number of its frame.
-#[derive(Clone, Copy, PartialEq, Eq, Debug)]
+#[derive(Clone, Copy, PartialEq, Eq, Debug, Default)]
 pub struct Signal {
     pub name: u16,
     // The control box that sends it.
@@ -14,7 +14,7 @@ pub struct Signal {
     pub set: u8,
 }
 
-#[derive(Clone, Copy, PartialEq, Eq, Debug)]
+#[derive(Clone, Copy, PartialEq, Eq, Debug, Default)]
 pub struct Entry {
     pub signal: Signal,
     pub frame: usize,

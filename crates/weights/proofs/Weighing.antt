@@ -2,12 +2,13 @@
 use Rattle.std.proofs.Common.{◌≡◌, ℕ, ◌*◌, ◌≤◌, true, false, List, Option, sym, ap, ◌∙◌, subst, ⊎_elim, arith}
 use Rattle.std.proofs.lemmas.Bool.{cases_lt, cond-true, cond-false, cond_both}
 use Rattle.frames.specs.declared.row.Row.{Row}
+use Rattle.frames.specs.Limits.{Lawful}
 use Rattle.timing.specs.Carried.{in_set, carried}
 use Rattle.frames.specs.Payloads.{payload}
 use Rattle.frames.proofs.Fitting.{payload_le, payload_mono}
 use Rattle.streams.specs.declared.stream.Stream.{Stream}
 use Rattle.streams.specs.Demands.{weight}
-use Rattle.streams.proofs.Demanding.{weight_grows, ceil_le}
+use Rattle.streams.proofs.Demanding.{weight_grows, weight_le, ceil_le}
 use Rattle.domains.specs.Duties.{Duties}
 use Rattle.weights.specs.Weights.{weight_in, row_weight}
 
@@ -20,6 +21,13 @@ module _ {D : Type 0} (count : D → ℕ) (cost : D → ℕ → ℕ → ℕ) (re
   pub cost_grows : (k p q : ℕ) → p ≤ q → q ≤ 64 → cost d k p ≤ cost d k q
   cost_grows k p q h l =
       ⊎_elim {C = cost d k p ≤ cost d k q} (λ m. duties.grows d k p q m h l) (λ m. omega (arith, duties.free d k p m, duties.free d k q m)) (cases_lt k (count d))
+
+  pub weight_in_le : (k : ℕ) (r : Row) → Lawful r → weight_in (cost d) k r ≤ 20000000
+  unfolding weight_in
+  weight_in_le k r h =
+      cond_both (carried k r) (weight (record { cost = cost d k (payload r.fill); period = r.period })) 0 (λ n. n ≤ 20000000)
+      (λ _. weight_le (record { cost = cost d k (payload r.fill); period = r.period }) (cost_le k (payload r.fill) (payload_le r.fill)) h.paced.0)
+      (λ _. omega arith)
 
 module _ (cost : ℕ → ℕ → ℕ) (k : ℕ) (r f : Row) (e : r ≡ f) where
   pub not_weighed : in_set k r.set ≡ false → 0 ≡ weight_in cost k f

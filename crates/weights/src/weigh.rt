@@ -40,11 +40,7 @@ pub fn frame_weight<D: Domain>(bank: &D, frame: &Frame) -> u64
     ensures is { result ≡ row_weight (D.cost bank.now) (row_of frame.now) }
     ensures low { result ≤ 80000000 }
 {
-    let mut sum: u64 = 0;
-    for k in 0..DOMAINS {
-        sum += weight_in(bank, k, frame);
-    }
-    sum
+    (0..DOMAINS).map(|k| weight_in(bank, k, frame)).sum()
 }
 
 // What the frame of a row within the limits weighs.
@@ -53,10 +49,7 @@ pub fn row_weight<D: Domain>(bank: &D, row: &Row) -> u64
     ensures is { result ≡ row_weight (D.cost bank.now) row.now }
     ensures low { result ≤ 80000000 }
 {
-    match Frame::of(row) {
-        Some(frame) => frame_weight(bank, &frame),
-        None => 0,
-    }
+    Frame::of(row).map_or(0, |frame| frame_weight(bank, &frame))
 }
 
 // What the frames of the rows weigh together.
@@ -65,9 +58,5 @@ pub fn rows_weight<D: Domain>(bank: &D, rows: &[Row]) -> u64
     requires few { length rows.now ≤ 96 }
     ensures { result ≡ rows_weight (D.cost bank.now) rows.now }
 {
-    let mut sum: u64 = 0;
-    for row in rows {
-        sum += row_weight(bank, row);
-    }
-    sum
+    rows.iter().map(|row| row_weight(bank, row)).sum()
 }
