@@ -5,22 +5,19 @@ ghost use Rattle.frames.specs.Limits.{Lawful};
 ghost use Rattle.frames.specs.Records.{row_of};
 ghost use Rattle.weights.specs.Weights.{weight_in, row_weight, rows_weight};
 
-use domains::domain::Domain;
+use domains::domain::{Domain, MOST_DOMAINS};
 use frames::frame::Frame;
 use frames::row::Row;
 use streams::stream::Stream;
 use streams::weight::weight_of;
 use timing::carried::carries;
 
-// The numbers of the domains in a set.
-const DOMAINS: usize = 4;
-
 // What the frame weighs in domain k; 0 where the domain does not carry it.
 pub fn weight_in<D: Domain>(bank: &D, k: usize, frame: &Frame) -> u64
     ensures is { result ≡ weight_in (D.cost bank.now) k (row_of frame.now) }
     ensures low { result ≤ 20000000 }
 {
-    let row = frame.row();
+    let row = Row::from(*frame);
     if !carries(k, row.set) {
         return 0;
     }
@@ -40,7 +37,7 @@ pub fn frame_weight<D: Domain>(bank: &D, frame: &Frame) -> u64
     ensures is { result ≡ row_weight (D.cost bank.now) (row_of frame.now) }
     ensures low { result ≤ 80000000 }
 {
-    (0..DOMAINS).map(|k| weight_in(bank, k, frame)).sum()
+    (0..MOST_DOMAINS).map(|k| weight_in(bank, k, frame)).sum()
 }
 
 // What the frame of a row within the limits weighs.
@@ -49,7 +46,7 @@ pub fn row_weight<D: Domain>(bank: &D, row: &Row) -> u64
     ensures is { result ≡ row_weight (D.cost bank.now) row.now }
     ensures low { result ≤ 80000000 }
 {
-    Frame::of(row).map_or(0, |frame| frame_weight(bank, &frame))
+    Frame::try_from(*row).map_or(0, |frame| frame_weight(bank, &frame))
 }
 
 // What the frames of the rows weigh together.
