@@ -2,9 +2,9 @@ pub mod Chosen
 pub mod Keeping
 pub mod Lowering
 pub mod Offers
+pub mod Picking
 pub mod Placing
 pub mod Rowed
-pub mod Shifts
 pub mod Sounds
 pub mod TakenOut
 pub mod Undoing

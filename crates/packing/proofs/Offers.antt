@@ -14,7 +14,7 @@ use Rattle.signals.proofs.Rowing.{row_push, in_left}
 use Rattle.weights.specs.Weights.{row_weight}
 use Rattle.weights.proofs.Weighing.{Fuller, fuller_heavier}
 use Rattle.packing.specs.declared.choice.Choice.{Choice}
-use Rattle.packing.specs.Choices.{may_join, row_with, growth_at, at_frame, choice, Best}
+use Rattle.packing.specs.Choices.{may_join, row_with, growth_at, choice, Best}
 use Rattle.packing.specs.Laws.{Placeable}
 use Rattle.packing.specs.Packings.{Packing, row}
 use Rattle.packing.proofs.Chosen.{best_is}
@@ -33,32 +33,31 @@ fuller ss s lasts = record {
 module _ (cost : ℕ → ℕ → ℕ) (p : Packing) (s : Signal) (n : ℕ) where
   -- a frame that there is
   module _ (old : n < p.frames) where
-    no_join : may_join (row p n) s ≡ false → None ≡ at_frame n (growth_at cost p s n)
+    no_join : may_join (row p n) s ≡ false → None ≡ growth_at cost p s n
     unfolding growth_at
-    no_join t = sym (ap (at_frame n) (cond-true _ _ _ (lt-ltb _ _ old) ∙ cond-false _ _ _ t))
+    no_join t = sym (cond-true _ _ _ (lt-ltb _ _ old) ∙ cond-false _ _ _ t)
 
-    pub other_sender : ((row p n).sender ≡ s.sender → ⊥) → None ≡ at_frame n (growth_at cost p s n)
+    pub other_sender : ((row p n).sender ≡ s.sender → ⊥) → None ≡ growth_at cost p s n
     other_sender ne = no_join (and_left _ _ (ne_eqb _ _ ne))
 
-    pub too_full : 64 < (row p n).fill + s.size → None ≡ at_frame n (growth_at cost p s n)
+    pub too_full : 64 < (row p n).fill + s.size → None ≡ growth_at cost p s n
     too_full more = no_join (and_right _ _ (lt-leb _ _ more))
 
-    pub joins : (row p n).sender ≡ s.sender → (row p n).fill + s.size ≤ 64 → (w v : ℕ) → w ≡ row_weight cost (row_with p n s) → v ≡ row_weight cost (row p n) → Some (record { frame = n; growth = w - v }) ≡ at_frame n (growth_at cost p s n)
+    pub joins : (row p n).sender ≡ s.sender → (row p n).fill + s.size ≤ 64 → (w v : ℕ) → w ≡ row_weight cost (row_with p n s) → v ≡ row_weight cost (row p n) → Some (w - v) ≡ growth_at cost p s n
     unfolding growth_at
     joins same room w v x y =
         let yes : may_join (row p n) s ≡ true = and_from _ _ (eq-eqb _ _ same) (le-leb _ _ room) in
-        ap₂ (λ a b. Some (record { frame = n; growth = a - b })) x y ∙ sym (ap (at_frame n) (cond-true _ _ _ (lt-ltb _ _ old) ∙ cond-true _ _ _ yes))
+        ap₂ (λ a b. Some (a - b)) x y ∙ sym (cond-true _ _ _ (lt-ltb _ _ old) ∙ cond-true _ _ _ yes)
 
   -- a new one
   module _ (past : p.frames ≤ n) where
-    pub no_room : 96 ≤ n → None ≡ at_frame n (growth_at cost p s n)
+    pub no_room : 96 ≤ n → None ≡ growth_at cost p s n
     unfolding growth_at
-    no_room full = sym (ap (at_frame n) (cond-false _ _ _ (le-ltb _ _ past) ∙ cond-false _ _ _ (le-ltb _ _ full)))
+    no_room full = sym (cond-false _ _ _ (le-ltb _ _ past) ∙ cond-false _ _ _ (le-ltb _ _ full))
 
-    pub opens : n < 96 → (w : ℕ) → w ≡ row_weight cost (row_with p n s) → Some (record { frame = n; growth = w }) ≡ at_frame n (growth_at cost p s n)
+    pub opens : n < 96 → (w : ℕ) → w ≡ row_weight cost (row_with p n s) → Some w ≡ growth_at cost p s n
     unfolding growth_at
-    opens room w x =
-        ap (λ a. Some (record { frame = n; growth = a })) x ∙ sym (ap (at_frame n) (cond-false _ _ _ (le-ltb _ _ past) ∙ cond-true _ _ _ (lt-ltb _ _ room)))
+    opens room w x = ap Some x ∙ sym (cond-false _ _ _ (le-ltb _ _ past) ∙ cond-true _ _ _ (lt-ltb _ _ room))
 
   pub lawful_with : Sound p → LawfulSignal s → (row p n).fill + s.size ≤ 64 → Lawful (row_with p n s)
   lawful_with h l room = lawful_push (riders n p.signals) s (lawful_riders p n h) l room

@@ -1,7 +1,7 @@
--- The rows of a table beside the list of signals. Assumes nothing.
-use Rattle.std.proofs.Common.{◌≡◌, ℕ, ◌<◌, ◌≤◌, List, [], ◌∷◌, ◌++◌, length, get_or, take, set, sym, refl, ap, ◌∙◌, ⊎_elim, arith}
-use Rattle.std.proofs.lemmas.List.{get_or-take, length-take-le, length-set, get_or-set_same, get_or-set_other}
-use Rattle.std.proofs.lemmas.List.FromFn.{get_or-map-range_with_len, fill_by_all}
+-- The rows that a list of signals gives, with one signal more. Assumes nothing.
+use Rattle.std.proofs.Common.{◌≡◌, ℕ, ◌+◌, ◌<◌, List, [], ◌∷◌, ◌++◌, length, get_or, set, sym, refl, ap, ap₂, ◌∙◌, ⊎_elim, zero-add, arith}
+use Rattle.std.proofs.lemmas.List.{length-set, get_or-set_same, get_or-set_other}
+use Rattle.std.proofs.lemmas.List.FromFn.{length-map-range_with_len, get_or-map-range_with_len, map-range_with_len_more, fill_by_all}
 use Rattle.std.proofs.lemmas.Bool.{cases_eq}
 use Rattle.frames.specs.declared.row.Row.{Row}
 use Rattle.domains.specs.Asked.{no_row}
@@ -12,18 +12,34 @@ use Rattle.signals.specs.Rows.{row_by}
 use Rattle.signals.proofs.Riding.{riders_push, riders_push_other}
 use Rattle.packing.specs.Packings.{rows_of}
 
-module _ (rows : List Row) (es : List Entry) (frames : ℕ) (kept : take frames rows ≡ rows_of es frames) where
-  pub row_at : (n : ℕ) (d : Row) → n < frames → get_or rows n d ≡ row_by (riders n es)
-  row_at n d h =
-      sym (get_or-take frames rows n d h) ∙ ap (λ l. get_or l n d) kept ∙ get_or-map-range_with_len (λ k. row_by (riders k es)) 0 frames n n d h (omega arith)
+module _ (es : List Entry) (frames : ℕ) where
+  pub rows_long : length (rows_of es frames) ≡ frames
+  rows_long = length-map-range_with_len (λ k. row_by (riders k es)) 0 frames
 
-  -- the signal goes to frame n, and the row there is replaced
-  pub rows_placed : (s : Signal) (n more : ℕ) (r : Row) → r ≡ row_by (riders n es ++ (s ∷ [])) → n < length rows → more ≤ length rows → ((k : ℕ) → k < more → (k ≡ n → ⊥) → k < frames) → take more (set rows n r) ≡ rows_of (es ++ (record { signal = s; frame = n } ∷ [])) more
-  rows_placed s n more r e within long old =
-      let e' : Entry = record { signal = s; frame = n } in
-      let es' : List Entry = es ++ (e' ∷ []) in
-      fill_by_all (λ k. row_by (riders k es')) (take more (set rows n r)) more no_row (length-take-le more (set rows n r) (omega (arith, length-set rows n r)))
-      (λ k h. get_or-take more (set rows n r) k no_row h ∙ ⊎_elim {C = get_or (set rows n r) k no_row ≡ row_by (riders k es')}
-      (λ q. ap (λ i. get_or (set rows n r) i no_row) q ∙ get_or-set_same rows n r no_row within ∙ e ∙ sym (ap row_by (riders_push n es e' refl)) ∙ ap (λ i. row_by (riders i es')) (sym q))
-      (λ q. get_or-set_other rows n k r no_row q ∙ row_at k no_row (old k h q) ∙ sym (ap row_by (riders_push_other k es e' (λ p. q (sym p)))))
-      (cases_eq k n))
+  pub row_at : (n : ℕ) (d : Row) → n < frames → get_or (rows_of es frames) n d ≡ row_by (riders n es)
+  row_at n d h = get_or-map-range_with_len (λ k. row_by (riders k es)) 0 frames n n d h (zero-add n)
+
+  module _ (s : Signal) (n : ℕ) (r : Row) (e : r ≡ row_by (riders n es ++ (s ∷ []))) where
+    abbrev after : List Entry
+    after = es ++ (record { signal = s; frame = n } ∷ [])
+
+    here : r ≡ row_by (riders n after)
+    here = e ∙ sym (ap row_by (riders_push n es (record { signal = s; frame = n }) refl))
+
+    elsewhere : (k : ℕ) → (k ≡ n → ⊥) → row_by (riders k es) ≡ row_by (riders k after)
+    elsewhere k ne = sym (ap row_by (riders_push_other k es (record { signal = s; frame = n }) (λ q. ne (sym q))))
+
+    -- the signal goes to an old frame, and the row there is replaced
+    pub rows_joined : n < frames → set (rows_of es frames) n r ≡ rows_of after frames
+    rows_joined l =
+        fill_by_all (λ k. row_by (riders k after)) (set (rows_of es frames) n r) frames no_row (length-set (rows_of es frames) n r ∙ rows_long)
+        (λ k h. ⊎_elim {C = get_or (set (rows_of es frames) n r) k no_row ≡ row_by (riders k after)}
+        (λ q. ap (λ i. get_or (set (rows_of es frames) n r) i no_row) q ∙ get_or-set_same (rows_of es frames) n r no_row (omega (arith, rows_long)) ∙ here ∙ ap (λ i. row_by (riders i after)) (sym q))
+        (λ q. get_or-set_other (rows_of es frames) n k r no_row q ∙ row_at k no_row h ∙ elsewhere k q)
+        (cases_eq k n))
+
+    -- or to a new one, and a row comes to the end
+    pub rows_opened : n ≡ frames → rows_of es frames ++ (r ∷ []) ≡ rows_of after (frames + 1)
+    rows_opened q =
+        ap₂ (λ rs x. rs ++ (x ∷ [])) (fill_by_all (λ k. row_by (riders k after)) (rows_of es frames) frames no_row rows_long (λ k h. row_at k no_row h ∙ elsewhere k (λ p. omega arith))) here
+        ∙ sym (map-range_with_len_more (λ k. row_by (riders k after)) 0 frames n (omega arith))

@@ -1,15 +1,10 @@
 -- By how much a packing weighs more with one signal more. Assumes nothing.
-use Rattle.std.proofs.Common.{◌≡◌, ℕ, suc, ◌+◌, ◌-◌, ◌<◌, ◌≤◌, max, List, [], ◌∷◌, ◌++◌, length, set, Some, sum_by, sym, refl, ap, ◌∙◌, subst, ap₂, ⊎_elim, arith}
-use Rattle.std.proofs.lemmas.List.{take_all, length-set}
+use Rattle.std.proofs.Common.{◌≡◌, ℕ, suc, ◌+◌, ◌-◌, ◌<◌, ◌≤◌, max, List, [], ◌∷◌, ◌++◌, length, Some, sum_by, sym, refl, ap, ◌∙◌, subst, ⊎_elim, arith}
 use Rattle.std.proofs.lemmas.List.Sums.{sum_by-set, sum_by_push}
-use Rattle.std.proofs.lemmas.List.FromFn.{length-map-range_with_len, get_or-map-range_with_len, map-range_with_len_more, fill_by_all}
 use Rattle.std.proofs.lemmas.Bool.{cases_lt, cond-true, cond-false, lt-ltb, le-ltb}
 use Rattle.domains.specs.Asked.{no_row}
 use Rattle.signals.specs.declared.signal.Signal.{Signal}
 use Rattle.signals.specs.declared.signal.Entry.{Entry}
-use Rattle.signals.specs.Riders.{riders}
-use Rattle.signals.specs.Rows.{row_by}
-use Rattle.signals.proofs.Riding.{riders_push, riders_push_other}
 use Rattle.weights.specs.Weights.{row_weight, rows_weight}
 use Rattle.packing.specs.declared.choice.Choice.{Choice}
 use Rattle.packing.specs.Choices.{growth_at, choice, row_with, Best}
@@ -18,13 +13,13 @@ use Rattle.packing.specs.Packings.{Packing, row, rows, rows_of, placed, packing_
 use Rattle.packing.proofs.Chosen.{best_is}
 use Rattle.packing.proofs.Offers.{heavier}
 use Rattle.packing.proofs.Placing.{room_at}
-use Rattle.packing.proofs.Rowed.{rows_placed}
+use Rattle.packing.proofs.Rowed.{rows_long, row_at, rows_joined, rows_opened}
 use Rattle.packing.proofs.Sounds.{Sound}
 use Rattle.shelf.proofs.Options.{some_same}
 
 module _ (cost : ℕ → ℕ → ℕ) (up : (k p q : ℕ) → p ≤ q → q ≤ 64 → cost k p ≤ cost k q) (p : Packing) (s : Signal) (h : Sound p) where
   long : length (rows p) ≡ p.frames
-  long = length-map-range_with_len (λ k. row p k) 0 p.frames
+  long = rows_long p.signals p.frames
 
   module _ (n : ℕ) (may : Placeable p s n) where
     abbrev new : Entry
@@ -34,30 +29,21 @@ module _ (cost : ℕ → ℕ → ℕ) (up : (k p q : ℕ) → p ≤ q → q ≤ 
     after = p.signals ++ (new ∷ [])
 
     -- an old frame: its row is replaced
-    old_rows : n < p.frames → rows_of after p.frames ≡ set (rows p) n (row_with p n s)
-    old_rows l =
-        sym (rows_placed (rows p) p.signals p.frames (take_all p.frames (rows p) (omega (arith, long))) s n p.frames (row_with p n s) refl (omega (arith, long)) (omega (arith, long)) (λ k m q. m))
-        ∙ take_all p.frames (set (rows p) n (row_with p n s)) (omega (arith, long, length-set (rows p) n (row_with p n s)))
-
     old_weight : n < p.frames → packing_weight cost (placed p s n) ≡ packing_weight cost p + (row_weight cost (row_with p n s) - row_weight cost (row p n))
     unfolding placed rows_weight
     old_weight l =
         let m : max p.frames (suc n) ≡ p.frames = omega arith in
-        omega (arith, ap (λ k. sum_by (row_weight cost) (rows_of after k)) m, ap (sum_by (row_weight cost)) (old_rows l), sum_by-set (row_weight cost) (rows p) n (row_with p n s) no_row (omega (arith, long)), ap (row_weight cost) (get_or-map-range_with_len (λ k. row p k) 0 p.frames n n no_row l (omega arith)), heavier cost p s n h may.lawful (room_at p s n h may) up)
+        omega (arith, ap (λ k. sum_by (row_weight cost) (rows_of after k)) m, ap (sum_by (row_weight cost)) (rows_joined p.signals p.frames s n (row_with p n s) refl l), sum_by-set (row_weight cost) (rows p) n (row_with p n s) no_row (omega (arith, long)), ap (row_weight cost) (row_at p.signals p.frames n no_row l), heavier cost p s n h may.lawful (room_at p s n h may) up)
 
     -- a new frame: its row goes to the end
-    same_rows : p.frames ≤ n → rows_of after p.frames ≡ rows p
-    same_rows l =
-        sym (fill_by_all (λ k. row_by (riders k after)) (rows p) p.frames no_row long (λ k m. get_or-map-range_with_len (λ j. row p j) 0 p.frames k k no_row m (omega arith) ∙ sym (ap row_by (riders_push_other k p.signals new (λ e. omega arith)))))
-
     new_weight : p.frames ≤ n → packing_weight cost (placed p s n) ≡ packing_weight cost p + row_weight cost (row_with p n s)
     unfolding placed rows_weight
     new_weight l =
-        let m : max p.frames (suc n) ≡ p.frames + 1 = omega (arith, may.near) in
+        let last : n ≡ p.frames = omega (arith, may.near) in
+        let m : max p.frames (suc n) ≡ p.frames + 1 = omega arith in
         ap (λ k. sum_by (row_weight cost) (rows_of after k)) m
-        ∙ ap (sum_by (row_weight cost)) (map-range_with_len_more (λ k. row_by (riders k after)) 0 p.frames n (omega (arith, may.near)))
-        ∙ sum_by_push (row_weight cost) (rows_of after p.frames) (row_by (riders n after))
-        ∙ ap₂ ◌+◌ (ap (sum_by (row_weight cost)) (same_rows l)) (ap (λ ss. row_weight cost (row_by ss)) (riders_push n p.signals new refl))
+        ∙ ap (sum_by (row_weight cost)) (sym (rows_opened p.signals p.frames s n (row_with p n s) refl last))
+        ∙ sum_by_push (row_weight cost) (rows p) (row_with p n s)
 
     -- by so much, as the growth at the frame says
     pub grown : (g : ℕ) × (growth_at cost p s n ≡ Some g) × (packing_weight cost (placed p s n) ≡ packing_weight cost p + g)

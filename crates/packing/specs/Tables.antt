@@ -1,7 +1,7 @@
 -- The list that a signal table holds. Assumes nothing.
-use Rattle.std.specs.Prelude.{List, take}
+use Rattle.std.specs.Prelude.{List}
 use Rattle.signals.specs.declared.signal.Entry.{Entry}
 use Rattle.packing.specs.declared.table.SignalTable.{SignalTable}
 
 abbrev pub listed : SignalTable → List Entry
-listed t = take t.count t.entries
+listed t = t.entries.items

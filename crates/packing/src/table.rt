@@ -1,10 +1,10 @@
-// The signals of a plan, in order of entry. The first `count` of the entries are in use.
+// The signals of a plan, in order of entry.
+use arrayvec::ArrayVec;
 use signals::signal::Entry;
 
-#[derive(Clone, Copy)]
+#[derive(Drop)]
 pub struct SignalTable {
-    pub(crate) entries: [Entry; 256],
-    pub(crate) count: usize,
+    pub(crate) entries: ArrayVec<Entry, 256>,
 }
 
 pub mod edit;

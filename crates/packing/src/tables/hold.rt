@@ -1,5 +1,5 @@
 // What the tables hold, one signal more, and one out.
-ghost use Rattle.std.specs.Prelude.{◌≡◌, ℕ, ◌+◌, ◌<◌, ◌≤◌, [], ◌∷◌, ◌++◌, length, take};
+ghost use Rattle.std.specs.Prelude.{◌≡◌, ℕ, ◌+◌, ◌<◌, ◌≤◌, [], ◌∷◌, ◌++◌, length, slice_set};
 ghost use Rattle.signals.specs.Riders.{riders};
 ghost use Rattle.signals.specs.Rows.{row_by};
 ghost use Rattle.packing.specs.Holds.{held};
@@ -8,21 +8,10 @@ ghost use Rattle.packing.specs.Packings.{packed, row, rows, rows_of, placed, tak
 
 use crate::table::SignalTable;
 use crate::tables::Tables;
+use arrayvec::ArrayVec;
 use frames::row::Row;
 use signals::gather::{BLANK, gather, join};
 use signals::signal::{Entry, Signal};
-
-const UNUSED: Entry = Entry {
-    signal: Signal {
-        name: 0,
-        sender: 0,
-        size: 0,
-        period: 0,
-        deadline: 0,
-        set: 0,
-    },
-    frame: 0,
-};
 
 impl Tables {
     pub fn new() -> Tables
@@ -30,25 +19,23 @@ impl Tables {
     {
         Tables {
             signals: SignalTable {
-                entries: [UNUSED; 256],
-                count: 0,
+                entries: ArrayVec::new(),
             },
-            rows: [BLANK; 96],
-            frames: 0,
+            rows: ArrayVec::new(),
         }
     }
 
     pub fn signal_count(&self) -> usize
         ensures { result ≡ length (held self.now).signals }
     {
-        self.signals.count
+        self.signals.entries.len()
     }
 
     pub fn frame_count(&self) -> usize
         ensures is { result ≡ (held self.now).frames }
         ensures low { result ≤ 96 }
     {
-        self.frames
+        self.rows.len()
     }
 
     // The signals in order of entry, each with the number of its frame.
@@ -56,21 +43,21 @@ impl Tables {
         ensures is { result.now ≡ (held self.now).signals }
         ensures packed { WellPacked (held self.now) }
     {
-        self.signals.used()
+        self.signals.entries.as_slice()
     }
 
     // The rows of the frames, in list order.
     pub fn frame_rows(&self) -> &[Row]
         ensures { result.now ≡ rows (held self.now) }
     {
-        &self.rows[0..self.frames]
+        self.rows.as_slice()
     }
 
     // The row of frame n; past the last frame, a blank one.
     pub fn row(&self, n: usize) -> Row
         ensures { result ≡ row (held self.now) n }
     {
-        if n < self.frames { self.rows[n] } else { BLANK }
+        self.rows.get(n).copied().unwrap_or(BLANK)
     }
 
     // The row that frame n would have with the signal in it.
@@ -87,9 +74,8 @@ impl Tables {
         ensures { held self.new ≡ placed (held self.old) signal n }
     {
         let row = self.row_with(n, &signal);
-        self.rows[n] = row;
-        self.signals.push(Entry { signal, frame: n });
-        self.frames = self.frames.max(n + 1);
+        put(&mut self.rows, n, row);
+        self.signals.entries.push(Entry { signal, frame: n });
     }
 
     // Takes the signal at place i out.
@@ -97,19 +83,34 @@ impl Tables {
         requires { i < length (held self.old).signals }
         ensures { held self.new ≡ taken_out (held self.old) i }
     {
-        let gone = self.signals.remove(i);
-        self.frames = self.signals.leave(gone.frame, self.frames);
-        gather_all(self.signals.used(), &mut self.rows, self.frames);
+        let gone = self.signals.entries.remove(i);
+        let frames = self.signals.leave(gone.frame, self.rows.len());
+        self.rows = gather_all(&self.signals.entries, frames);
     }
 }
 
-// Writes the rows of the first n frames.
-fn gather_all(entries: &[Entry], rows: &mut [Row], n: usize)
-    requires room { n ≤ length rows.old }
-    requires fills { (k : ℕ) → k < n → (row_by (riders k entries.now)).fill ≤ 64 }
-    ensures { take n rows.new ≡ rows_of entries.now n }
+// Writes the row of frame n, an old one or the one after the last.
+fn put(rows: &mut ArrayVec<Row, 96>, n: usize, row: Row)
+    requires near { n ≤ length rows.old.items }
+    requires room { n < 96 }
+    ensures old { n < length rows.old.items → rows.new.items ≡ slice_set rows.old.items n row }
+    ensures next { n ≡ length rows.old.items → rows.new.items ≡ rows.old.items ++ (row ∷ []) }
 {
-    for k in 0..n {
-        rows[k] = gather(entries, k);
+    match rows.get_mut(n) {
+        Some(old) => *old = row,
+        None => rows.push(row),
     }
+}
+
+// The rows of the first n frames.
+fn gather_all(entries: &[Entry], n: usize) -> ArrayVec<Row, 96>
+    requires room { n ≤ 96 }
+    requires fills { (k : ℕ) → k < n → (row_by (riders k entries.now)).fill ≤ 64 }
+    ensures { result.items ≡ rows_of entries.now n }
+{
+    let mut rows = ArrayVec::new();
+    for k in 0..n {
+        rows.push(gather(entries, k));
+    }
+    rows
 }

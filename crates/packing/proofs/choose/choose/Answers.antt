@@ -1,13 +1,16 @@
-use Rattle.std.proofs.Common.{◌≡◌, ap, ◌∙◌, ap₂, add-one, arith}
-use Rattle.packing.specs.Choices.{growth_at, lighter, lightest_below, choice}
+use Rattle.std.proofs.Common.{rules, suc, ◌∙◌}
+use Rattle.std.proofs.lemmas.Iterator.Consumers.{YieldsList-from_filter_map, YieldsList-at}
+use Rattle.packing.specs.Choices.{at_frame, growth_at, choice}
 use Rattle.packing.specs.Holds.{held}
+use Rattle.packing.proofs.Picking.{numbers_to, picked, lightest_is}
 use Rattle.packing.proofs.choose.choose.Goals as goal
-
-pub loop-n-preserved : goal.loop-n-preserved
-loop-n-preserved g c = rw add-one (c.better-best.ensures ∙ ap₂ lighter c.loop-n.invariant c.join_offer.ensures)
 
 pub returns : goal.returns
 unfolding choice
 returns g c =
-    let all : c.loop-n.n ≡ c.args.tables.now.frames = omega (arith, c.frame_count-n-end.ensures.is) in
-    c.better.ensures ∙ ap₂ lighter (c.loop-n.invariant ∙ ap (lightest_below (growth_at (g.D.Domain.cost c.args.bank.now) (held c.args.tables.now) c.args.signal.now)) all) c.open_offer.ensures
+    let p = held c.args.tables.now in
+    let growth = growth_at (g.D.Domain.cost c.args.bank.now) p c.args.signal.now in
+    let n = p.frames in
+    let road = numbers_to c.new.result n c.new.ensures.start (c.new.ensures.end ∙ c.frame_count-count.ensures.is) c.new.ensures.exhausted in
+    picked _ _ (λ x k q e. search rules) _ _ _ _ c.min_by_key.ensures.ran (YieldsList-from_filter_map _ (λ k. at_frame k (growth k)) (YieldsList-at c.filter_map.ensures.source road) c.filter_map.ensures.closure (λ x r q e. search rules))
+    ∙ lightest_is growth (suc n)

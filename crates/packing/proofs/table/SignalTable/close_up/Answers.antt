@@ -1,18 +1,20 @@
-use Rattle.std.proofs.Common.{◌≡◌, map, length, take, set, sym, ap, ◌∙◌, ap₂, arith}
-use Rattle.std.proofs.lemmas.List.{get_or_default}
+use Rattle.std.proofs.Common.{◌≡◌, map, length, set, get_or, ap, ◌∙◌, arith}
+use Rattle.std.proofs.lemmas.List.{take_all, drop_all, append-nil, get_or_default}
 use Rattle.std.proofs.lemmas.List.Edits.{map_over_more}
+use Rattle.arrayvec.proofs.ArrayVecLemmas.{items-with_items}
+use Rattle.signals.specs.Names.{no_entry}
 use Rattle.packing.specs.Packings.{lower}
-use Rattle.packing.proofs.Shifts.{mapped_front, mapped_length}
 use Rattle.packing.proofs.table.SignalTable.close_up.Goals as goal
 
-pub loop-k-preserved : goal.loop-k-preserved
-loop-k-preserved c =
-    (ap (set c.loop-k.self.entries c.loop-k.k) c.moved_up.ensures ∙ map_over_more (lower c.args.f) c.args.self.now.entries c.loop-k.self.entries c.loop-k.k _ (omega (arith, ap length c.loop-k.invariant.0, mapped_length (lower c.args.f) c.args.self.now.entries c.loop-k.k)) c.loop-k.invariant.0 (get_or_default c.loop-k.self.entries c.loop-k.k _ _ (omega arith)), c.loop-k.invariant.1)
+pub loop-entry-preserved : goal.loop-entry-preserved
+loop-entry-preserved c =
+    let xs = c.loop-entry.entry-items in
+    let i = c.loop-entry.entry-index in
+    let read = get_or xs i no_entry in
+    ap (λ n. set xs i (record { signal = read.signal; frame = n })) c.moved_up-entry.ensures
+    ∙ map_over_more (lower c.args.f) c.as_mut_slice-entry-items.result.now xs i read (omega arith) c.loop-entry.invariant (get_or_default xs i _ _ (omega arith))
 
 pub returns : goal.returns
 returns c =
-    let all : c.loop-k.k ≡ c.args.self.now.count = omega arith in
-    record {
-      listed = ap₂ take (c.loop-k.invariant.1 ∙ sym all) c.loop-k.invariant.0 ∙ mapped_front (lower c.args.f) c.args.self.now.entries c.loop-k.k ∙ ap (λ n. map (lower c.args.f) (take n c.args.self.now.entries)) all;
-      count = c.loop-k.invariant.1;
-    }
+    let all : c.loop-entry.entry-items ≡ map (lower c.args.f) c.args.self.now.entries.items = grind (arith, take_all, drop_all, append-nil) in
+    items-with_items c.args.self.now.entries c.loop-entry.entry-items (omega (arith, ap length c.as_mut_slice-entry-items.ensures.value)) ∙ all

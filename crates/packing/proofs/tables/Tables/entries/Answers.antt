@@ -3,8 +3,5 @@ use Rattle.packing.proofs.Sounds.{to_sound}
 use Rattle.packing.proofs.Words.{well_packed}
 use Rattle.packing.proofs.tables.Tables.entries.Goals as goal
 
-pub returns : goal.returns
-returns c = record {
-  is = c.used.ensures;
-  packed = well_packed (held c.args.self.now) (to_sound _ c.args.self.now.ok);
-}
+pub returns-clause-packed : goal.returns-clause-packed
+returns-clause-packed c = well_packed (held c.args.self.now) (to_sound _ c.args.self.now.ok)

@@ -1,17 +1,25 @@
-use Rattle.std.proofs.Common.{sym, ap, ◌∙◌}
-use Rattle.signals.specs.Rows.{row_by}
+use Rattle.std.proofs.Common.{rules, ◌≡◌, get_or, sym, ap, ◌∙◌, ⊎_elim, arith}
+use Rattle.std.proofs.lemmas.Option.{gets}
+use Rattle.std.proofs.lemmas.List.{get_or_past}
+use Rattle.std.proofs.lemmas.Bool.{cases_lt}
+use Rattle.frames.specs.declared.row.Row.{Row}
+use Rattle.signals.specs.Rows.{row_by, longest}
 use Rattle.signals.proofs.Rowing.{row_nil}
 use Rattle.packing.specs.Holds.{held}
-use Rattle.packing.specs.Tables.{listed}
+use Rattle.packing.specs.Packings.{row}
 use Rattle.packing.proofs.Placing.{riders_past}
-use Rattle.packing.proofs.Rowed.{row_at}
+use Rattle.packing.proofs.Rowed.{row_at, rows_long}
 use Rattle.packing.proofs.Sounds.{to_sound}
 use Rattle.packing.proofs.tables.Tables.row.Goals as goal
 
-pub returns-then-n-self : goal.returns-then-n-self
-returns-then-n-self c =
-    row_at c.args.self.now.rows (listed c.args.self.now.signals) c.args.self.now.frames c.args.self.now.kept c.args.n _ c.if-n-self.true
-
-pub returns-else-n-self : goal.returns-else-n-self
-returns-else-n-self c =
-    sym (ap row_by (riders_past (held c.args.self.now) c.args.n (to_sound _ c.args.self.now.ok) c.if-n-self.false) ∙ row_nil)
+pub returns : goal.returns
+returns c =
+    let t = c.args.self.now in
+    let p = held t in
+    let n = c.args.n in
+    let blank : Row = record { sender = 0; fill = 0; period = longest; deadline = longest; set = 0 } in
+    let got : c.unwrap_or.result ≡ get_or t.rows.items n blank = search (rules, gets) in
+    got ∙ ap (λ rs. get_or rs n blank) t.kept ∙ ⊎_elim {C = get_or (Rattle.packing.specs.Packings.rows_of p.signals p.frames) n blank ≡ row p n}
+    (row_at p.signals p.frames n blank)
+    (λ l. get_or_past _ n blank (omega (arith, rows_long p.signals p.frames)) ∙ sym (ap row_by (riders_past p n (to_sound p t.ok) l) ∙ row_nil))
+    (cases_lt n p.frames)

@@ -5,7 +5,7 @@ use Rattle.weights.proofs.Weighing.{cost_grows}
 use Rattle.packing.specs.Holds.{held}
 use Rattle.packing.proofs.Offers.{other_sender, too_full, joins, lawful_with, heavier}
 use Rattle.packing.proofs.Sounds.{to_sound}
-use Rattle.packing.proofs.choose.join_offer.Goals as goal
+use Rattle.packing.proofs.choose.join_growth.Goals as goal
 
 pub returns-then-row-signal : goal.returns-then-row-signal
 returns-then-row-signal g c =
