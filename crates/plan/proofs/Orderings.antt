@@ -14,10 +14,10 @@ use Rattle.plan.specs.Stands.Stands.{order, conflict}
 use Rattle.plan.proofs.Readings.{rows_long}
 
 module _ (m : Bank) (p : Packing) where
-  pub order_given : (pl : Placement) → Placed (in_time m) (rows p) pl → (gives (pl.count ∷ pl.examinations ∷ []) ≡ order_says m p) × (order (take p.frames pl.numbers) ≡ ordered m p) × (picked_order m p ≡ Some (take (length (rows p)) pl.numbers))
+  pub order_given : (pl : Placement) → Placed (in_time m) (rows p) pl → (gives (length pl.numbers.items ∷ pl.examinations ∷ []) ≡ order_says m p) × (order pl.numbers.items ≡ ordered m p) × (picked_order m p ≡ Some pl.numbers.items)
   order_given pl h = (
     ap₂ (λ x y. gives (x ∷ y ∷ [])) h.count h.examinations ∙ sym (ap (order_answers m p) h.is),
-    ap (λ n. order (take n pl.numbers)) (sym (rows_long p)) ∙ sym (ap (standing_after m p) h.is),
+    sym (ap (standing_after m p) h.is),
     h.is,
   )
 

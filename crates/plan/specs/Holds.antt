@@ -9,5 +9,5 @@ use Rattle.plan.specs.Stands.Stands.{nothing, order, conflict}
 -- of a plan with n frames
 abbrev pub stands_of : ℕ → Standing → Stands
 stands_of n Neither = nothing
-stands_of n (Ordered p) = order (take n p.numbers)
+stands_of n (Ordered p) = order p.numbers.items
 stands_of n (Clashing c) = conflict (above (take n c.table))

@@ -1,5 +1,6 @@
 -- What stands of a closed plan: an order, a conflict, or neither. Assumes nothing.
-use Rattle.std.specs.Prelude.{ℕ, suc, Bool, true, false, cond, ◌||◌, List, [], ◌∷◌, ◌==◌}
+use Rattle.std.specs.Prelude.{ℕ, Bool, true, false, List, [], ◌==◌}
+use Rattle.std.specs.List.{position_or_len, list_any}
 
 -- by the numbers of frames: of an order from its first place on, of a conflict in list order
 pub data Stands : Type 0 where
@@ -31,10 +32,8 @@ in_conflict (conflict cs) = cs
 
 -- how many come before n
 abbrev pub place_in : ℕ → List ℕ → ℕ
-place_in n [] = 0
-place_in n (x ∷ xs) = cond (x == n) 0 (suc (place_in n xs))
+place_in n xs = position_or_len (λ x. x == n) xs
 
 -- whether n is there
 abbrev pub among : ℕ → List ℕ → Bool
-among n [] = false
-among n (x ∷ xs) = x == n || among n xs
+among n xs = list_any (λ x. x == n) xs

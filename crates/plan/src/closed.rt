@@ -4,7 +4,7 @@ use ordering::orders::Placement;
 use packing::tables::Tables;
 
 // What stands: an order, a conflict, or neither.
-#[derive(Clone, Copy)]
+#[derive(Drop)]
 pub enum Standing {
     Neither,
     Ordered(Placement),

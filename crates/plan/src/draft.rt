@@ -55,9 +55,7 @@ impl<B: Domain> Draft<B> {
         ensures bank { self.new.bank ≡ self.old.bank }
         ensures packed { WellPacked (held self.new.tables) }
     {
-        let Some(i) = find(self.tables.entries(), name) else {
-            return Err(PlanFault::NameUnknown);
-        };
+        let i = find(self.tables.entries(), name).ok_or(PlanFault::NameUnknown)?;
         self.tables.take_out(i);
         Ok(())
     }

@@ -16,7 +16,7 @@ use crate::fault::PlanFault;
 use domains::domain::Domain;
 use ordering::conflicts::Conflict;
 use ordering::orders::{Placement, find_order};
-use packing::tables::Tables;
+use timing::everywhere::Frames;
 
 // How many frames were ordered, and how many examinations it took.
 #[derive(Clone, Copy, PartialEq, Eq, Debug)]
@@ -25,13 +25,16 @@ pub struct Counted {
     pub examinations: usize,
 }
 
-fn solve<B: Domain>(bank: &B, tables: &Tables) -> Result<Placement, Conflict>
-    ensures { Answered (everywhere (B.response bank.now)) (rows (held tables.now)) result }
-{
-    find_order(bank, tables.frame_rows())
-}
-
 impl<B: Domain> Closed<B> {
+    fn solve(&self) -> Result<Placement, Conflict>
+        ensures { Answered (everywhere (B.response self.now.bank)) (rows (held self.now.tables)) result }
+    {
+        find_order(&Frames {
+            bank: &self.bank,
+            rows: self.tables.frame_rows(),
+        })
+    }
+
     // Orders the frames, or refuses and leaves the conflict.
     pub fn order(&mut self) -> Result<Counted, PlanFault>
         ensures says { told (λ c. c.frames ∷ c.examinations ∷ []) result ≡ order_says (bank_of (B.count self.old.bank) (B.cost self.old.bank) (B.response self.old.bank)) (held self.old.tables) }
@@ -41,13 +44,14 @@ impl<B: Domain> Closed<B> {
         ensures refused { Iff (is_ok result ≡ false) (HasOrder (bank_of (B.count self.old.bank) (B.cost self.old.bank) (B.response self.old.bank)) (rows (held self.old.tables)) → ⊥) }
         ensures upheld { Upheld (bank_of (B.count self.old.bank) (B.cost self.old.bank) (B.response self.old.bank)) (held self.old.tables) (stands_of (held self.new.tables).frames self.new.standing) }
     {
-        match solve(&self.bank, &self.tables) {
+        match self.solve() {
             Ok(placement) => {
-                self.standing = Standing::Ordered(placement);
-                Ok(Counted {
-                    frames: placement.count,
+                let counted = Counted {
+                    frames: placement.numbers.len(),
                     examinations: placement.examinations,
-                })
+                };
+                self.standing = Standing::Ordered(placement);
+                Ok(counted)
             }
             Err(conflict) => {
                 self.standing = Standing::Clashing(conflict);
