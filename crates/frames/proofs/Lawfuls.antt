@@ -22,7 +22,7 @@ pub lawful_frame : (f : Frame) → Lawful (row_of f)
 lawful_frame f = record { filled = f.filled; paced = f.paced; timely = f.timely; carried = f.carried }
 
 -- a row that breaks a limit is outside the limits
-breaks_unlawful : (r : Row) (e : RowFault) → Breaks r e → Lawful r → ⊥
+pub breaks_unlawful : (r : Row) (e : RowFault) → Breaks r e → Lawful r → ⊥
 breaks_unlawful r Fill b h = b h.filled
 breaks_unlawful r Period b h = b.1 h.paced
 breaks_unlawful r Deadline b h = b.2 h.timely

@@ -79,3 +79,7 @@ module _ (p : Packing) where
   unfolding sound
   from_sound h =
       and_from _ _ (le-leb _ _ h.few) (and_from _ _ (le-leb _ _ h.room) (and_from _ _ ((decides_apart (names p.signals)).1 h.apart_names) (and_from _ _ ((fairs p p.signals).1 h.signals) ((all_lawful (rows p)).1 (lawful_rows h.frames)))))
+
+  -- it has at most 96 rows
+  pub few_rows : sound p ≡ true → length (rows p) ≤ 96
+  few_rows e = omega (arith, length-map-range_with_len (λ k. row p k) 0 p.frames, (to_sound e).room)

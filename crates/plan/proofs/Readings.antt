@@ -1,5 +1,5 @@
 -- What the readings look up. Assumes nothing.
-use Rattle.std.proofs.Common.{◌≡◌, ℕ, zero, suc, ◌+◌, ◌<◌, ◌≤◌, Bool, true, false, cond, ◌||◌, eqb, List, [], ◌∷◌, length, get_or, take, is_some, Some, None, Option, sym, refl, ap, ◌∙◌, ap₂, arith}
+use Rattle.std.proofs.Common.{◌≡◌, ℕ, zero, suc, ◌+◌, ◌<◌, ◌≤◌, Bool, true, false, cond, ◌||◌, eqb, List, [], ◌∷◌, length, get_or, take, Some, None, Ok, Err, is_ok, Result, sym, refl, ap, ◌∙◌, ap₂, arith}
 use Rattle.std.specs.List.{AllByRecursion}
 use Rattle.std.proofs.lemmas.List.FromFn.{length-map-range_with_len}
 use Rattle.std.proofs.ByRecursion.{All-weaker}
@@ -8,7 +8,9 @@ use Rattle.std.proofs.lemmas.Bool.{eq-eqb, ne_eqb, cond-true, lt-ltb}
 use Rattle.frames.specs.declared.row.Row.{Row}
 use Rattle.frames.specs.declared.frame.Frame.{Frame}
 use Rattle.frames.specs.Limits.{Lawful}
+use Rattle.frames.specs.declared.fault.RowFault.{RowFault}
 use Rattle.frames.specs.Records.{Checked}
+use Rattle.frames.proofs.Lawfuls.{breaks_unlawful}
 use Rattle.domains.specs.declared.place.Place.{Place}
 use Rattle.domains.specs.declared.place.Place.TheVariants.{Above}
 use Rattle.shelf.specs.Numbers.{chosen}
@@ -65,9 +67,9 @@ module _ (p : Packing) (name : ℕ) where
   frame_unknown e = sym (ap₂ (λ o q. unless_refused (frame_at p o ∷ []) q) e (unknown p name e))
 
 -- a frame's record
-pub record_there : (r : Row) (o : Option Frame) → Checked r o → Lawful r → is_some o ≡ true
-record_there r None c h = absurd (c h)
-record_there r (Some f) c h = refl
+pub record_there : (r : Row) (o : Result Frame RowFault) → Checked r o → Lawful r → is_ok o ≡ true
+record_there r (Ok f) c h = refl
+record_there r (Err e) c h = absurd (breaks_unlawful r e c h)
 
 -- what is read of the conflict that stands
 pub member_is : (p : Packing) (st : Standing) (n : ℕ) → n < p.frames → (c : Conflict) → st ≡ Clashing c → (b : Bool) → b ≡ is_above (get_or c.table n Above) → p.frames ≤ length c.table → gives (bit b ∷ []) ≡ member_says p (stands_of p.frames st) n

@@ -61,7 +61,7 @@ impl<B: Domain> Closed<B> {
         ensures { told (λ f. figures (row_of f)) result ≡ record_says (held self.now.tables) n }
     {
         self.check_frame(n)?;
-        Ok(Frame::of(&self.tables.row(n)).unwrap())
+        Ok(Frame::try_from(self.tables.row(n)).unwrap())
     }
 
     // The identifier of frame n in the order that stands.

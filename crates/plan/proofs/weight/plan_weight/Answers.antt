@@ -1,11 +1,9 @@
 use Rattle.std.proofs.Common.{length, sym, ap, ◌∙◌, subst, arith}
 use Rattle.std.specs.List.{AllByRecursion}
-use Rattle.std.proofs.lemmas.List.FromFn.{length-map-range_with_len}
 use Rattle.frames.specs.Limits.{Lawful}
 use Rattle.weights.specs.Weights.{rows_weight}
 use Rattle.packing.specs.Holds.{held}
-use Rattle.packing.specs.Packings.{row}
-use Rattle.packing.proofs.Sounds.{to_sound, lawful_rows}
+use Rattle.packing.proofs.Sounds.{to_sound, lawful_rows, few_rows}
 use Rattle.plan.proofs.weight.plan_weight.Goals as goal
 
 pub rows_weight-requires : goal.rows_weight-requires
@@ -14,7 +12,7 @@ rows_weight-requires g c =
     let h = to_sound p c.args.tables.now.ok in
     record {
       lawful = subst (AllByRecursion Lawful) (sym c.frame_rows.ensures) (lawful_rows p h.frames);
-      few = omega (arith, ap length c.frame_rows.ensures, length-map-range_with_len (λ k. row p k) 0 p.frames, h.room);
+      few = omega (arith, ap length c.frame_rows.ensures, few_rows p c.args.tables.now.ok);
     }
 
 pub returns : goal.returns
