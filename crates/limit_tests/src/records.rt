@@ -1,4 +1,5 @@
 // The check of a row, at both sides of each limit.
+use frames::fault::RowFault;
 use frames::frame::Frame;
 use frames::payload::payload_of;
 use frames::row::Row;
@@ -46,6 +47,26 @@ fn limits_of_a_record(rt: HostRuntime) {
     }
     for (set, ok) in [(0, false), (1, true), (15, true), (16, false)] {
         assert_eq!(rt; passes(Row { set, ..LAWFUL }), ok, "set");
+    }
+}
+
+// Where several limits are broken the first one is named.
+#[test]
+fn first_limit_that_a_row_breaks(rt: HostRuntime) {
+    let set = Row { set: 0, ..LAWFUL };
+    let deadline = Row { deadline: 0, ..set };
+    let period = Row {
+        period: 0,
+        ..deadline
+    };
+    let fill = Row { fill: 0, ..period };
+    for (row, fault) in [
+        (fill, RowFault::Fill),
+        (period, RowFault::Period),
+        (deadline, RowFault::Deadline),
+        (set, RowFault::Set),
+    ] {
+        assert_eq!(rt; Frame::try_from(row).err(), Some(fault));
     }
 }
 

@@ -1,34 +1,11 @@
 // From signals to identifiers and responses, to a conflict, and what the readings refuse.
+use crate::samples::{bank, signal};
 use bus::bus::Bus;
-use domains::pair::Pair;
-use gateway::gateway::Gateway;
 use plan::closed::order::Counted;
 use plan::draft::Draft;
 use plan::fault::PlanFault;
-use radio::radio::Radio;
 use signals::signal::Signal;
 use std::test::Fail;
-
-type Bank = Pair<Pair<Bus, Bus>, Pair<Gateway, Radio>>;
-
-fn bank() -> Result<Bank, Fail> {
-    let bus = Bus::new(2_000, 500)?;
-    Ok(Pair::new(
-        Pair::new(bus, bus),
-        Pair::new(Gateway::new(20_000, 100)?, Radio::new(50_000)?),
-    ))
-}
-
-fn signal(name: u16, sender: u8, size: u8, period: u64, set: u8) -> Signal {
-    Signal {
-        name,
-        sender,
-        size,
-        period,
-        deadline: period,
-        set,
-    }
-}
 
 #[test]
 fn identifiers_and_responses(rt: HostRuntime) -> Result<(), Fail> {

@@ -1,33 +1,15 @@
 // Which frame a signal joins, what the frames and their weights then are, and what a withdrawal leaves.
-use bus::bus::Bus;
-use domains::pair::Pair;
+use crate::samples::{bank, signal};
 use frames::row::Row;
 use gateway::gateway::Gateway;
 use plan::draft::Draft;
 use radio::radio::Radio;
-use signals::signal::Signal;
 use std::test::Fail;
-
-fn signal(name: u16, sender: u8, size: u8, period: u64, set: u8) -> Signal {
-    Signal {
-        name,
-        sender,
-        size,
-        period,
-        deadline: period,
-        set,
-    }
-}
 
 // The three signals of the smallest truck: the first and the last ride together.
 #[test]
 fn three_signals(rt: HostRuntime) -> Result<(), Fail> {
-    let bus = Bus::new(2_000, 500)?;
-    let bank = Pair::new(
-        Pair::new(bus, bus),
-        Pair::new(Gateway::new(20_000, 100)?, Radio::new(50_000)?),
-    );
-    let mut draft = Draft::new(bank);
+    let mut draft = Draft::new(bank()?);
     draft.enter(signal(1, 1, 8, 10_000_000, 1))?;
     draft.enter(signal(2, 2, 2, 5_000_000, 3))?;
     assert_eq!(rt; draft.weight(), 49_000, "12,200 and twice 18,400");
@@ -40,7 +22,7 @@ fn three_signals(rt: HostRuntime) -> Result<(), Fail> {
         deadline: 10_000_000,
         set: 1,
     };
-    assert_eq!(rt; draft.close().record(0)?.row(), joined);
+    assert_eq!(rt; Row::from(draft.close().record(0)?), joined);
     Ok(())
 }
 

@@ -10,3 +10,5 @@ mod drafts;
 mod limits;
 #[cfg(test)]
 mod replays;
+#[cfg(test)]
+mod samples;

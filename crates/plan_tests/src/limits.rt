@@ -17,10 +17,8 @@ const FAIR: Signal = Signal {
 // The number with which the signal is refused by an empty draft over one domain, or 0.
 fn refusal(signal: Signal) -> Result<u8, Fail> {
     let mut draft = Draft::new(Gateway::new(20_000, 100)?);
-    match draft.enter(signal) {
-        Ok(()) => Ok(0),
-        Err(fault) => Ok(fault.number()),
-    }
+    let refused = draft.enter(signal).err();
+    Ok(refused.map_or(0, |fault| fault.number()))
 }
 
 fn of_period(period: u64, deadline: u64) -> Signal {
