@@ -1,20 +1,15 @@
 use Rattle.std.proofs.Common.{◌≡◌, ℕ, ◌≤◌, arith}
-use Rattle.std.proofs.lemmas.List.{at_drop_more, at_drop_all}
+use Rattle.std.proofs.lemmas.List.{at_drop_all}
 use Rattle.std.proofs.ByRecursion.{All-weaker}
 use Rattle.shelf.specs.Folds.{most}
 use Rattle.shelf.proofs.Folds.{most_le}
 use Rattle.streams.specs.declared.stream.Stream.{Stream}
 use Rattle.streams.specs.Demands.{Fit}
 use Rattle.streams.proofs.Fitting.{all_fit}
-use Rattle.streams.proofs.Demanding.{no_stream}
 use Rattle.streams.proofs.load.Load.largest_cost.Goals as goal
 
 abbrev cost : Stream → ℕ
 cost s = s.cost
-
-pub loop-stream-preserved : goal.loop-stream-preserved
-loop-stream-preserved c =
-    omega (arith, c.max-largest.ensures, c.loop-stream.invariant, at_drop_more (most cost) c.args.self.now.streams.now c.loop-stream.stream-index no_stream c.loop-stream-test.true)
 
 pub returns : goal.returns
 returns c =

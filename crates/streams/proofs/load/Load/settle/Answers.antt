@@ -1,15 +1,9 @@
-use Rattle.std.proofs.Common.{◌≡◌, ℕ, ◌+◌, ◌≤◌, Some, None, sym, ap, ◌∙◌, subst, arith}
+use Rattle.std.proofs.Common.{◌≡◌, ℕ, ◌+◌, ◌≤◌, Some, None, sym, ap, ◌∙◌, arith}
 use Rattle.shelf.proofs.Solutions.{is_solution}
 use Rattle.streams.specs.Demands.{busy, demand}
 use Rattle.streams.proofs.Fitting.{all_fit}
 use Rattle.streams.proofs.Demanding.{demand_mono}
 use Rattle.streams.proofs.load.Load.settle.Goals as goal
-
-pub loop-w-init : goal.loop-w-init
-loop-w-init c =
-    let rule : ℕ → ℕ = busy c.args.self.now.streams.now c.args.base c.args.ahead in
-    let start = c.max-w.ensures in
-    (omega (arith, start), subst (λ (w : ℕ). w ≤ rule w) (sym start) c.requires.rises, λ v a p. omega (arith, start, c.requires.below v a p))
 
 pub returns-then-next-w : goal.returns-then-next-w
 returns-then-next-w c =

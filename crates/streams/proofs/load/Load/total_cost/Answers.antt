@@ -1,6 +1,5 @@
 use Rattle.std.proofs.Common.{◌+◌, get_or, sym, refl, ap, ◌∙◌, arith}
 use Rattle.std.proofs.ByRecursion.{All-get_or}
-use Rattle.std.proofs.lemmas.List.{take_all}
 use Rattle.std.proofs.lemmas.List.Sums.{sum_by_more}
 use Rattle.streams.specs.Demands.{Fit, total}
 use Rattle.streams.proofs.Fitting.{all_fit}
@@ -11,15 +10,8 @@ pub loop-stream-init : goal.loop-stream-init
 unfolding total
 loop-stream-init c = (omega arith, refl)
 
-pub overflow_add-sum : goal.overflow_add-sum
-overflow_add-sum c = let fit = All-get_or Fit c.args.self.now.streams.now c.loop-stream.stream-index no_stream c.loop-stream-test.true (all_fit _ c.args.self.now.fit) in record { fits = omega (arith, fit.priced, c.loop-stream.invariant.0) }
-
 pub loop-stream-preserved : goal.loop-stream-preserved
 unfolding total
 loop-stream-preserved c =
     let fit = All-get_or Fit c.args.self.now.streams.now c.loop-stream.stream-index no_stream c.loop-stream-test.true (all_fit _ c.args.self.now.fit) in
     (omega (arith, fit.priced, c.loop-stream.invariant.0), ap (λ n. n + (get_or c.args.self.now.streams.now c.loop-stream.stream-index no_stream).cost) c.loop-stream.invariant.1 ∙ sym (sum_by_more (λ s. s.cost) c.args.self.now.streams.now c.loop-stream.stream-index no_stream c.loop-stream-test.true))
-
-pub returns : goal.returns
-returns c =
-    record { is = c.loop-stream.invariant.1 ∙ ap total (take_all c.loop-stream.stream-index c.args.self.now.streams.now c.loop-stream-test.false); low = omega arith }
