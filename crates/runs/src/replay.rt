@@ -1,11 +1,8 @@
 // Calls one after another on a plan just created.
 ghost use Rattle.std.specs.Prelude.{◌≡◌};
-ghost use Rattle.frames.specs.Records.{row_of};
 ghost use Rattle.packing.specs.Holds.{held};
 ghost use Rattle.plan.specs.Banks.{bank_of};
-ghost use Rattle.plan.specs.Closes.{figures};
 ghost use Rattle.plan.specs.Holds.{stands_of};
-ghost use Rattle.plan.specs.Said.{told as toldBy};
 ghost use Rattle.runs.specs.Books.{on_draft, on_closed, step};
 ghost use Rattle.runs.specs.Holds.{plan_bank, plan_book};
 ghost use Rattle.runs.specs.Replies.{told};
@@ -14,20 +11,8 @@ ghost use Rattle.runs.specs.Promise.{Ran};
 use crate::call::{Answer, Call};
 use crate::state::Plan;
 use domains::domain::Domain;
-use frames::frame::Frame;
-use frames::row::Row;
 use plan::closed::Closed;
 use plan::draft::Draft;
-use plan::fault::PlanFault;
-
-fn row_of(res: Result<Frame, PlanFault>) -> Result<Row, PlanFault>
-    ensures { toldBy figures result ≡ toldBy (λ f. figures (row_of f)) res }
-{
-    match res {
-        Ok(frame) => Ok(frame.row()),
-        Err(fault) => Err(fault),
-    }
-}
 
 // One call on a draft.
 fn on_draft<B: Domain>(mut draft: Draft<B>, call: Call) -> (Plan<B>, Answer)
@@ -68,7 +53,7 @@ fn on_closed<B: Domain>(mut closed: Closed<B>, call: Call) -> (Plan<B>, Answer)
     let answer = match call {
         Call::Order => Answer::Ordered(closed.order()),
         Call::FrameOf(name) => Answer::Frame(closed.frame_of(name)),
-        Call::Record(n) => Answer::Record(row_of(closed.record(n))),
+        Call::Record(n) => Answer::Record(closed.record(n).map(|frame| frame.row())),
         Call::Identifier(n) => Answer::Identifier(closed.identifier(n)),
         Call::Response(n, k) => Answer::Response(closed.response(n, k)),
         Call::Member(n) => Answer::Member(closed.in_conflict(n)),
@@ -101,8 +86,8 @@ pub fn replay<B: Domain>(bank: B, calls: &[Call], answers: &mut [Answer]) -> Res
         return Err(bank);
     }
     let mut plan = Plan::Open(Draft::new(bank));
-    for i in 0..calls.len() {
-        let (next, answer) = apply(plan, calls[i]);
+    for (i, call) in calls.iter().enumerate() {
+        let (next, answer) = apply(plan, *call);
         plan = next;
         answers[i] = answer;
     }
