@@ -36,36 +36,25 @@ fn calls_one_after_another(rt: HostRuntime) -> Result<(), Fail> {
         return Err(Fail::new("not a draft"));
     };
     assert_eq!(rt; draft.signal_count(), 1);
-    let Answer::Changed(entered) = answers[0] else {
-        return Err(Fail::new("not entered"));
-    };
-    assert_eq!(rt; entered, Ok(()));
-    let Answer::NotAllowed = answers[1] else {
-        return Err(Fail::new("a draft was ordered"));
-    };
-    let Answer::NotAllowed = answers[3] else {
-        return Err(Fail::new("a closed plan was changed"));
-    };
-    let Answer::Response(response) = answers[5] else {
-        return Err(Fail::new("not a response"));
-    };
-    assert_eq!(rt; response, Ok(122_000));
-    let Answer::Member(member) = answers[6] else {
-        return Err(Fail::new("not a membership"));
-    };
-    assert_eq!(rt; member, Err(PlanFault::NoConflict));
+    assert_eq!(rt; answers[0], Answer::Changed(Ok(())));
+    assert_eq!(rt; answers[1], Answer::NotAllowed, "a draft is not ordered");
+    assert_eq!(rt;
+        answers[3],
+        Answer::NotAllowed,
+        "a closed plan is not changed"
+    );
+    assert_eq!(rt; answers[5], Answer::Response(Ok(122_000)));
+    assert_eq!(rt; answers[6], Answer::Member(Err(PlanFault::NoConflict)));
     Ok(())
 }
 
 #[test]
-fn too_few_answers() -> Result<(), Fail> {
+fn too_few_answers(rt: HostRuntime) -> Result<(), Fail> {
     let calls = [Call::Close, Call::Weight];
     let mut answers = [Answer::NotAllowed; 1];
     let Err(_bank) = replay(Bus::new(2_000, 500)?, &calls, &mut answers) else {
         return Err(Fail::new("calls were made"));
     };
-    let Answer::NotAllowed = answers[0] else {
-        return Err(Fail::new("an answer was written"));
-    };
+    assert_eq!(rt; answers[0], Answer::NotAllowed, "nothing was written");
     Ok(())
 }

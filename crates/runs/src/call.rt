@@ -4,7 +4,7 @@ use plan::closed::order::Counted;
 use plan::fault::PlanFault;
 use signals::signal::Signal;
 
-#[derive(Clone, Copy)]
+#[derive(Clone, Copy, PartialEq, Eq, Debug)]
 pub enum Call {
     Enter(Signal),
     Withdraw(u16),
@@ -24,7 +24,7 @@ pub enum Call {
     Weight,
 }
 
-#[derive(Clone, Copy)]
+#[derive(Clone, Copy, PartialEq, Eq, Debug)]
 pub enum Answer {
     // Of enter and withdraw.
     Changed(Result<(), PlanFault>),

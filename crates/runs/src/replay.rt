@@ -11,6 +11,7 @@ ghost use Rattle.runs.specs.Promise.{Ran};
 use crate::call::{Answer, Call};
 use crate::state::Plan;
 use domains::domain::Domain;
+use frames::row::Row;
 use plan::closed::Closed;
 use plan::draft::Draft;
 
@@ -53,7 +54,7 @@ fn on_closed<B: Domain>(mut closed: Closed<B>, call: Call) -> (Plan<B>, Answer)
     let answer = match call {
         Call::Order => Answer::Ordered(closed.order()),
         Call::FrameOf(name) => Answer::Frame(closed.frame_of(name)),
-        Call::Record(n) => Answer::Record(closed.record(n).map(|frame| frame.row())),
+        Call::Record(n) => Answer::Record(closed.record(n).map(Row::from)),
         Call::Identifier(n) => Answer::Identifier(closed.identifier(n)),
         Call::Response(n, k) => Answer::Response(closed.response(n, k)),
         Call::Member(n) => Answer::Member(closed.in_conflict(n)),
