@@ -1,6 +1,5 @@
 -- What the public call owes, from what its parts give. Assumes nothing.
-use Rattle.std.proofs.Common.{◌≡◌, ◌≤◌, Bool, true, List, [], length, take, drop, replicate, Some, None, Option, sym, ap, ◌∙◌, subst, arith, length-take}
-use lib.ListN.{length-replicate}
+use Rattle.std.proofs.Common.{◌≡◌, ◌≤◌, Bool, true, List, [], length, take, drop, replicate, Some, None, Option, sym, ap, ◌∙◌, subst, arith}
 use Rattle.timing.specs.Laws.{Laws}
 use Rattle.shelf.specs.Numbers.{numbers}
 use Rattle.timing.specs.Places.{by_number}
@@ -19,9 +18,6 @@ use Rattle.ordering.proofs.Claims.{order_right, conflict_is}
 use Rattle.ordering.proofs.Dropping.{all_above, none_below}
 
 module _ (rows : List Row) (few : length rows ≤ 96) where
-  pub fresh_long : length (take (length rows) (replicate 96 Above)) ≡ length rows
-  fresh_long = simp (length-take, length-replicate) (omega arith)
-
   pub fresh_above : above (take (length rows) (replicate 96 Above)) ≡ numbers 0 rows
   fresh_above = all_above 0 96 rows few
 

@@ -16,9 +16,6 @@ pub record Looking {P : Type 0} (is : P → Bool) (p : ℕ → Bool) (ps : List 
   pub same : found p (chosen is 0 ps) ≡ found p (chosen is i (drop i ps))
   pub count : examined p (chosen is 0 ps) ≡ n + examined p (chosen is i (drop i ps))
 
-pub looking_none : {P : Type 0} (is : P → Bool) (p : ℕ → Bool) (ps : List P) → Looking is p ps 0 0
-looking_none is p ps = record { few = omega arith; same = refl; count = omega arith }
-
 module _ {P : Type 0} {is : P → Bool} {p : ℕ → Bool} {ps : List P} {i n : ℕ} (h : Looking is p ps i n) where
   pub looking_skip : (d : P) → i < length ps → is (get_or ps i d) ≡ false → Looking is p ps (i + 1) n
   looking_skip d l e = let c = chosen_skip is ps i d l e in

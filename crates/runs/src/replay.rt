@@ -21,17 +21,14 @@ fn on_draft<B: Domain>(mut draft: Draft<B>, call: Call) -> (Plan<B>, Answer)
     ensures book { plan_book result.0 ≡ (on_draft (bank_of (B.count draft.bank) (B.cost draft.bank) (B.response draft.bank)) (held draft.tables) call).after }
     ensures says { told result.1 ≡ (on_draft (bank_of (B.count draft.bank) (B.cost draft.bank) (B.response draft.bank)) (held draft.tables) call).reply }
 {
-    if let Call::Close = call {
-        return (Plan::Shut(draft.close()), Answer::Moved);
-    }
     let answer = match call {
+        Call::Close => return (Plan::Shut(draft.close()), Answer::Moved),
         Call::Enter(signal) => Answer::Changed(draft.enter(signal)),
         Call::Withdraw(name) => Answer::Changed(draft.withdraw(name)),
         Call::SignalCount => Answer::Count(draft.signal_count()),
         Call::FrameCount => Answer::Count(draft.frame_count()),
         Call::Weight => Answer::Weight(draft.weight()),
-        Call::Close
-        | Call::Reopen
+        Call::Reopen
         | Call::Order
         | Call::FrameOf(_)
         | Call::Record(_)
@@ -48,10 +45,8 @@ fn on_closed<B: Domain>(mut closed: Closed<B>, call: Call) -> (Plan<B>, Answer)
     ensures book { plan_book result.0 ≡ (on_closed (bank_of (B.count closed.bank) (B.cost closed.bank) (B.response closed.bank)) (held closed.tables) (stands_of (held closed.tables).frames closed.standing) call).after }
     ensures says { told result.1 ≡ (on_closed (bank_of (B.count closed.bank) (B.cost closed.bank) (B.response closed.bank)) (held closed.tables) (stands_of (held closed.tables).frames closed.standing) call).reply }
 {
-    if let Call::Reopen = call {
-        return (Plan::Open(closed.reopen()), Answer::Moved);
-    }
     let answer = match call {
+        Call::Reopen => return (Plan::Open(closed.reopen()), Answer::Moved),
         Call::Order => Answer::Ordered(closed.order()),
         Call::FrameOf(name) => Answer::Frame(closed.frame_of(name)),
         Call::Record(n) => Answer::Record(closed.record(n).map(Row::from)),
@@ -61,7 +56,7 @@ fn on_closed<B: Domain>(mut closed: Closed<B>, call: Call) -> (Plan<B>, Answer)
         Call::SignalCount => Answer::Count(closed.signal_count()),
         Call::FrameCount => Answer::Count(closed.frame_count()),
         Call::Weight => Answer::Weight(closed.weight()),
-        Call::Enter(_) | Call::Withdraw(_) | Call::Close | Call::Reopen => Answer::NotAllowed,
+        Call::Enter(_) | Call::Withdraw(_) | Call::Close => Answer::NotAllowed,
     };
     (Plan::Shut(closed), answer)
 }
