@@ -12,8 +12,7 @@ bounds-entries-i g c =
 
 pub offset_bounds-entries-i : goal.offset_bounds-entries-i
 offset_bounds-entries-i g c =
-    let t = c.args.self.now.tables in
-    let w : c.in-Some.i < 256 = omega (arith, (found_within c.args.name 0 c.in-Some.i c.entries-entries.result.now (sym c.find.ensures ∙ c.in-Some.is)).1, ap length c.entries-entries.ensures.is, t.few, t.counted) in
+    let w : c.in-Some.i < 256 = omega (arith, (found_within c.args.name 0 c.in-Some.i c.entries-entries.result.now (sym c.find.ensures ∙ c.in-Some.is)).1, ap length c.entries-entries.ensures.is, c.entries-entries.ensures.packed.few) in
     search rules
 
 pub returns-in-Some : goal.returns-in-Some

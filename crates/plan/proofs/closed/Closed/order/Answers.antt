@@ -1,6 +1,7 @@
 use Rattle.std.proofs.Common.{sym, refl, subst}
 use Rattle.std.proofs.lemmas.Bool.{true≢false}
 use Rattle.packing.specs.Holds.{held}
+use Rattle.packing.proofs.Sounds.{to_sound}
 use Rattle.timing.proofs.Combining.{everywhere_laws}
 use Rattle.plan.specs.Banks.{bank_of}
 use Rattle.plan.specs.Subject.{Upheld}
@@ -21,7 +22,7 @@ returns-in-Ok g c =
       holds = refl;
       bank = refl;
       refused = (λ e. absurd (true≢false e), λ n. absurd (n (has_order m laws p _ r.2)));
-      upheld = subst (Upheld m p) (sym r.1) (ordered_upheld m laws p c.args.self.now.tables.room);
+      upheld = subst (Upheld m p) (sym r.1) (ordered_upheld m laws p (to_sound p c.args.self.now.tables.ok).room);
     }
 
 pub returns-in-Err : goal.returns-in-Err
@@ -37,5 +38,5 @@ returns-in-Err g c =
       holds = refl;
       bank = refl;
       refused = (λ _. no_order m laws p r.2, λ _. refl);
-      upheld = subst (Upheld m p) (sym r.1) (ordered_upheld m laws p c.args.self.now.tables.room);
+      upheld = subst (Upheld m p) (sym r.1) (ordered_upheld m laws p (to_sound p c.args.self.now.tables.ok).room);
     }

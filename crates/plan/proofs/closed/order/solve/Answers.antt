@@ -1,5 +1,6 @@
 use Rattle.std.proofs.Common.{length, ap, subst, arith}
 use Rattle.packing.specs.Holds.{held}
+use Rattle.packing.proofs.Sounds.{to_sound}
 use Rattle.timing.specs.Everywhere.{everywhere}
 use Rattle.ordering.specs.Answers.{Answered}
 use Rattle.plan.proofs.Readings.{rows_long}
@@ -7,7 +8,7 @@ use Rattle.plan.proofs.closed.order.solve.Goals as goal
 
 pub find_order-requires : goal.find_order-requires
 find_order-requires g c =
-    omega (arith, ap length c.frame_rows.ensures, rows_long (held c.args.tables.now), c.args.tables.now.room)
+    omega (arith, ap length c.frame_rows.ensures, rows_long (held c.args.tables.now), (to_sound _ c.args.tables.now.ok).room)
 
 pub returns : goal.returns
 returns g c =

@@ -7,7 +7,7 @@ use Rattle.plan.proofs.closed.readings.frame_record.Goals as goal
 
 pub unwrap-requires : goal.unwrap-requires
 unwrap-requires c =
-    let l : c.args.n < c.args.tables.now.frames = omega (arith, c.frame_count.ensures.is) in
+    let l : c.args.n < (held c.args.tables.now).frames = omega (arith, c.frame_count.ensures.is) in
     record_there c.row.result c.of.result c.of.ensures (subst Lawful (sym c.row.ensures) ((to_sound (held c.args.tables.now) c.args.tables.now.ok).frames c.args.n l))
 
 pub returns : goal.returns
