@@ -1,8 +1,9 @@
 -- What the look at one frame finds, and that the choice may take the signal. Assumes nothing.
-use Rattle.std.proofs.Common.{◌≡◌, ℕ, suc, ◌+◌, ◌-◌, ◌<◌, ◌≤◌, Bool, true, false, cond, ltb, List, [], ◌∷◌, ◌++◌, length, Some, None, Option, sym, refl, ap, ◌∙◌, subst, ap₂, ⊎_elim, arith}
+use Rattle.std.proofs.Common.{◌≡◌, ℕ, suc, ◌+◌, ◌-◌, ◌<◌, ◌≤◌, true, false, cond, ltb, List, [], ◌∷◌, ◌++◌, length, Some, None, Option, sym, ap, ◌∙◌, subst, ap₂, ⊎_elim, arith}
 use native.Mathlib.Nat.{min-le_left}
 use Rattle.std.specs.List.{AllByRecursion}
 use Rattle.std.proofs.lemmas.Bool.{cond-true, cond-false, lt-ltb, le-ltb, ltb-true, eq-eqb, ne_eqb, le-leb, lt-leb, and_from, and_left, and_right, cases_lt}
+use Rattle.std.proofs.lemmas.Option.{cond_some}
 use Rattle.timing.specs.Carried.{in_set}
 use Rattle.frames.specs.Limits.{Lawful}
 use Rattle.signals.specs.declared.signal.Signal.{Signal}
@@ -70,11 +71,6 @@ module _ (cost : ℕ → ℕ → ℕ) (p : Packing) (s : Signal) (n : ℕ) where
   pub room_past : Sound p → LawfulSignal s → p.frames ≤ n → (row p n).fill + s.size ≤ 64
   room_past h l past = omega (arith, fill_past p n h past, l.sized.1)
 
--- an option that is given under a test
-some_true : {P : Type 0} (t : Bool) (x y : ℕ) → cond t (Some x) None ≡ Some y → (t ≡ true → P) → P
-some_true true x y e f = f refl
-some_true false x y e f = let z : ◌≡◌ {A = ℕ} 0 1 = cc in absurd (let no : ⊥ = omega arith in no)
-
 -- the choice may take the signal
 pub choice_placeable : (cost : ℕ → ℕ → ℕ) (p : Packing) (s : Signal) (c : Choice) → Sound p → LawfulSignal s → length p.signals < 256 → AllByRecursion (λ y. y ≡ s.name → ⊥) (names p.signals) → choice cost p s ≡ Some c → Placeable p s c.frame
 unfolding choice growth_at
@@ -90,7 +86,7 @@ choice_placeable cost p s c h l few free e =
       near = omega (arith, o.0);
       room = ⊎_elim {C = n < 96}
           (λ m. omega (arith, h.room))
-          (λ m. some_true (ltb n 96) _ _ (sym (cond-false _ old new (le-ltb _ _ m)) ∙ o.1) (ltb-true _ _))
+          (λ m. ltb-true _ _ (cond_some (ltb n 96) _ _ (sym (cond-false _ old new (le-ltb _ _ m)) ∙ o.1)).0)
           (cases_lt n p.frames);
-      joins = λ m. some_true (may_join (row p n) s) _ _ (sym (cond-true _ old new (lt-ltb _ _ m)) ∙ o.1) (λ t. t);
+      joins = λ m. (cond_some (may_join (row p n) s) _ _ (sym (cond-true _ old new (lt-ltb _ _ m)) ∙ o.1)).0;
     }

@@ -79,7 +79,7 @@ growth_of Less b c = refl
 growth_of Equal b c = refl
 growth_of Greater b c = refl
 
--- the keys of the picks
+-- each call gives an offer's growth, so what is picked by key is the first of those that grow least
 module _ {F : Type 0} (g : Mut F (Bor Choice × Unit {0}) ℕ) (f : F) (calls : (x : Choice) (k : ℕ) (q : F) → CalledAt g f x k q → (q ≡ f) × (k ≡ x.growth)) where
   turns : (xs : List Choice) (p q : (F × ℕ) × Choice) → p.0.0 ≡ f → p.0.1 ≡ p.1.growth → FoldsTo (KeyTurn min_by_ordering min_by_ordering g nat_cmp) p xs q → FoldsTo (λ b c d. d ≡ less_grown b c) p.1 xs q.1
   turns [] p q e k h = ap (λ (v : (F × ℕ) × Choice). v.1) h

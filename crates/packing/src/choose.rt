@@ -5,12 +5,10 @@ ghost use Rattle.packing.specs.Choices.{at_frame, choice, growth_at};
 ghost use Rattle.packing.specs.Holds.{held};
 
 use crate::choice::Choice;
-use crate::tables::Tables;
+use crate::tables::{MAX_FRAMES, Tables};
 use domains::domain::Domain;
 use signals::signal::Signal;
 use weights::weigh::row_weight;
-
-const MAX_FRAMES: usize = 96;
 
 const MAX_FILL: u8 = 64;
 

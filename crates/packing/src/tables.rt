@@ -8,10 +8,12 @@ use crate::table::SignalTable;
 use arrayvec::ArrayVec;
 use frames::row::Row;
 
+pub(crate) const MAX_FRAMES: usize = 96;
+
 #[derive(Drop)]
 pub struct Tables {
     signals: SignalTable,
-    rows: ArrayVec<Row, 96>,
+    rows: ArrayVec<Row, MAX_FRAMES>,
     ghost ok: { sound (packed (listed signals) (length rows.items)) ≡ true },
     ghost kept: { rows.items ≡ rows_of (listed signals) (length rows.items) },
 }

@@ -1,11 +1,9 @@
 -- The search for a name. Assumes nothing.
-use Rattle.std.proofs.Common.{◌≡◌, ℕ, ◌+◌, ◌<◌, ◌≤◌, true, ◌||◌, eqb, List, [], ◌∷◌, ◌++◌, length, get_or, drop, Some, None, sym, ap, ◌∙◌, ⊎_elim, arith}
+use Rattle.std.proofs.Common.{◌≡◌, ℕ, ◌+◌, ◌<◌, ◌≤◌, eqb, List, [], ◌∷◌, ◌++◌, length, Some, None, sym, ap, ◌∙◌, ⊎_elim, arith}
 use Rattle.std.specs.List.{AllByRecursion}
-use Rattle.std.proofs.lemmas.List.{at_drop_more}
-use Rattle.std.proofs.lemmas.Bool.{cond-true, cond-false, eq-eqb, ne_eqb, eqb-false, or_left, cases_Bool}
+use Rattle.std.proofs.lemmas.Bool.{cond-true, cond-false, eq-eqb, ne_eqb, eqb-false, cases_Bool}
 use Rattle.signals.specs.declared.signal.Entry.{Entry}
-use Rattle.signals.specs.Names.{place_of, names, no_entry}
-use Rattle.signals.specs.Riders.{any_in}
+use Rattle.signals.specs.Names.{place_of, names}
 use Rattle.shelf.proofs.Options.{some_same, some_none}
 
 pub found_within : (x i j : ℕ) (es : List Entry) → place_of x i es ≡ Some j → (i ≤ j) × (j < i + length es)

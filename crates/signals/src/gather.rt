@@ -6,12 +6,15 @@ ghost use Rattle.signals.specs.Rows.{joined, row_by};
 use crate::signal::{Entry, Signal};
 use frames::row::Row;
 
+// The longest lawful period, in nanoseconds.
+const LONGEST: u64 = 2_000_000_000;
+
 // The row of no signals: every lawful period and deadline is at most as long.
 pub const BLANK: Row = Row {
     sender: 0,
     fill: 0,
-    period: 2_000_000_000,
-    deadline: 2_000_000_000,
+    period: LONGEST,
+    deadline: LONGEST,
     set: 0,
 };
 

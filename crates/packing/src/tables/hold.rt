@@ -7,7 +7,7 @@ ghost use Rattle.packing.specs.Laws.{Placeable, WellPacked};
 ghost use Rattle.packing.specs.Packings.{packed, row, rows, rows_of, placed, taken_out};
 
 use crate::table::SignalTable;
-use crate::tables::Tables;
+use crate::tables::{MAX_FRAMES, Tables};
 use arrayvec::ArrayVec;
 use frames::row::Row;
 use signals::gather::{BLANK, gather, join};
@@ -90,7 +90,7 @@ impl Tables {
 }
 
 // Writes the row of frame n, an old one or the one after the last.
-fn put(rows: &mut ArrayVec<Row, 96>, n: usize, row: Row)
+fn put(rows: &mut ArrayVec<Row, MAX_FRAMES>, n: usize, row: Row)
     requires near { n ≤ length rows.old.items }
     requires room { n < 96 }
     ensures old { n < length rows.old.items → rows.new.items ≡ slice_set rows.old.items n row }
@@ -103,7 +103,7 @@ fn put(rows: &mut ArrayVec<Row, 96>, n: usize, row: Row)
 }
 
 // The rows of the first n frames.
-fn gather_all(entries: &[Entry], n: usize) -> ArrayVec<Row, 96>
+fn gather_all(entries: &[Entry], n: usize) -> ArrayVec<Row, MAX_FRAMES>
     requires room { n ≤ 96 }
     requires fills { (k : ℕ) → k < n → (row_by (riders k entries.now)).fill ≤ 64 }
     ensures { result.items ≡ rows_of entries.now n }
