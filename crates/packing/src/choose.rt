@@ -12,56 +12,63 @@ use weights::weigh::row_weight;
 
 const MAX_FILL: u8 = 64;
 
-// How much more the plan weighs where the signal joins frame n, which has to be of its sender and have room.
-fn join_growth<D: Domain>(bank: &D, tables: &Tables, signal: &Signal, n: usize) -> Option<u64>
-    requires lawful { LawfulSignal signal.now }
-    requires within { n < (held tables.now).frames }
-    ensures { result ≡ growth_at (D.cost bank.now) (held tables.now) signal.now n }
-{
-    let row = tables.row(n);
-    if row.sender != signal.sender {
-        return None;
-    }
-    if row.fill + signal.size > MAX_FILL {
-        return None;
-    }
-    let after = row_weight(bank, &tables.row_with(n, signal));
-    Some(after - row_weight(bank, &row))
+// A signal that asks for a frame of the tables, over a bank of domains.
+#[derive(Drop)]
+pub struct Entrant<'a, D> {
+    pub bank: &'a D,
+    pub tables: &'a Tables,
+    pub signal: &'a Signal,
+    pub ghost lawful: { LawfulSignal signal.now },
 }
 
-// How much more it weighs where the signal opens frame n, the one after the last, if there may be one more.
-fn open_growth<D: Domain>(bank: &D, tables: &Tables, signal: &Signal, n: usize) -> Option<u64>
-    requires lawful { LawfulSignal signal.now }
-    requires next { n ≡ (held tables.now).frames }
-    ensures { result ≡ growth_at (D.cost bank.now) (held tables.now) signal.now n }
-{
-    if n >= MAX_FRAMES {
-        return None;
+impl<D: Domain> Entrant<'_, D> {
+    // How much more the plan weighs where the signal joins frame n, which has to be of its sender and have room.
+    fn join_growth(&self, n: usize) -> Option<u64>
+        requires { n < (held self.now.tables.now).frames }
+        ensures { result ≡ growth_at (D.cost self.now.bank.now) (held self.now.tables.now) self.now.signal.now n }
+    {
+        let row = self.tables.row(n);
+        if row.sender != self.signal.sender {
+            return None;
+        }
+        if row.fill + self.signal.size > MAX_FILL {
+            return None;
+        }
+        let after = row_weight(self.bank, &self.tables.row_with(n, self.signal));
+        Some(after - row_weight(self.bank, &row))
     }
-    Some(row_weight(bank, &tables.row_with(n, signal)))
-}
 
-// What frame n offers the signal, an old one or the one after the last.
-fn offer<D: Domain>(bank: &D, tables: &Tables, signal: &Signal, n: usize) -> Option<Choice>
-    requires lawful { LawfulSignal signal.now }
-    requires near { n ≤ (held tables.now).frames }
-    ensures { result ≡ at_frame n (growth_at (D.cost bank.now) (held tables.now) signal.now n) }
-{
-    let growth = if n < tables.frame_count() {
-        join_growth(bank, tables, signal, n)?
-    } else {
-        open_growth(bank, tables, signal, n)?
-    };
-    Some(Choice { frame: n, growth })
-}
+    // How much more it weighs where the signal opens frame n, the one after the last, if there may be one more.
+    fn open_growth(&self, n: usize) -> Option<u64>
+        requires { n ≡ (held self.now.tables.now).frames }
+        ensures { result ≡ growth_at (D.cost self.now.bank.now) (held self.now.tables.now) self.now.signal.now n }
+    {
+        if n >= MAX_FRAMES {
+            return None;
+        }
+        Some(row_weight(self.bank, &self.tables.row_with(n, self.signal)))
+    }
 
-// The frame where the weight grows least: an old one before a new one, an earlier one before a later one.
-pub fn choose<D: Domain>(bank: &D, tables: &Tables, signal: &Signal) -> Option<Choice>
-    requires { LawfulSignal signal.now }
-    ensures { result ≡ choice (D.cost bank.now) (held tables.now) signal.now }
-{
-    let count = tables.frame_count();
-    (0..=count)
-        .filter_map(|n| offer(bank, tables, signal, n))
-        .min_by_key(|choice| choice.growth)
+    // What frame n offers the signal, an old one or the one after the last.
+    fn offer(&self, n: usize) -> Option<Choice>
+        requires { n ≤ (held self.now.tables.now).frames }
+        ensures { result ≡ at_frame n (growth_at (D.cost self.now.bank.now) (held self.now.tables.now) self.now.signal.now n) }
+    {
+        let growth = if n < self.tables.frame_count() {
+            self.join_growth(n)?
+        } else {
+            self.open_growth(n)?
+        };
+        Some(Choice { frame: n, growth })
+    }
+
+    // The frame where the weight grows least: an old one before a new one, an earlier one before a later one.
+    pub fn choose(&self) -> Option<Choice>
+        ensures { result ≡ choice (D.cost self.now.bank.now) (held self.now.tables.now) self.now.signal.now }
+    {
+        let count = self.tables.frame_count();
+        (0..=count)
+            .filter_map(|n| self.offer(n))
+            .min_by_key(|choice| choice.growth)
+    }
 }

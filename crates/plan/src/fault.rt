@@ -2,6 +2,9 @@
 ghost use Rattle.std.specs.Prelude.{◌≡◌};
 ghost use Rattle.plan.specs.Faults.{plan_told};
 
+use std::error::Error;
+use std::fmt;
+
 #[derive(Clone, Copy, PartialEq, Eq, Debug)]
 pub enum PlanFault {
     // A figure of the signal is outside its limits.
@@ -53,3 +56,26 @@ impl PlanFault {
         }
     }
 }
+
+impl fmt::Display for PlanFault {
+    fn fmt<W: fmt::Write>(&self, f: &mut fmt::Formatter<W>) -> fmt::Result {
+        f.write_str(match self {
+            PlanFault::Sender => "the sender of a signal is outside its limits",
+            PlanFault::Size => "the size of a signal is outside its limits",
+            PlanFault::Period => "the period of a signal is outside its limits",
+            PlanFault::Deadline => "the deadline of a signal is outside its limits",
+            PlanFault::Set => "the domain set of a signal is outside the bank",
+            PlanFault::NameTaken => "a signal of the plan has the name already",
+            PlanFault::SignalsFull => "the plan has as many signals as it can",
+            PlanFault::FramesFull => "no frame can be joined or opened",
+            PlanFault::NameUnknown => "no signal of the plan has the name",
+            PlanFault::NoOrder(_) => "the frames have no order",
+            PlanFault::FrameUnknown => "the plan has no frame of the number",
+            PlanFault::NotOrdered => "no order stands",
+            PlanFault::NotCarried => "the domain does not carry the frame",
+            PlanFault::NoConflict => "no conflict stands",
+        })
+    }
+}
+
+impl Error for PlanFault {}

@@ -7,7 +7,7 @@ ghost use Rattle.plan.specs.Questions.{figure_questions, first_no, fault_of, Ask
 use crate::fault::PlanFault;
 use domains::domain::Domain;
 use packing::choice::Choice;
-use packing::choose::choose;
+use packing::choose::Entrant;
 use packing::tables::Tables;
 use signals::entries::find;
 use signals::signal::Signal;
@@ -53,5 +53,10 @@ pub(crate) fn ask<D: Domain>(
     if tables.signal_count() >= MAX_SIGNALS {
         return Err(PlanFault::SignalsFull);
     }
-    choose(bank, tables, signal).ok_or(PlanFault::FramesFull)
+    let entrant = Entrant {
+        bank,
+        tables,
+        signal,
+    };
+    entrant.choose().ok_or(PlanFault::FramesFull)
 }

@@ -1,6 +1,5 @@
 // Prints which signals ride together, each frame's row and weight, and the plan's weight.
 use crate::truck::Line;
-use anyhow::anyhow;
 use domains::domain::Domain;
 use frames::frame::Frame;
 use frames::row::Row;
@@ -50,9 +49,7 @@ pub fn print_packing<D: Domain>(
 ) -> anyhow::Result<()> {
     println!(rt; "frame sender fill payload    period  deadline set weight  signals")?;
     for n in 0..plan.frame_count() {
-        let Ok(frame) = plan.record(n) else {
-            return Err(anyhow!("a frame has no record"));
-        };
+        let frame = plan.record(n)?;
         print_frame(rt, bank, n, &frame)?;
         print_riders(rt, plan, lines, n)?;
         print_riders(rt, plan, more, n)?;

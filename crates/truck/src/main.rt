@@ -11,7 +11,7 @@ use calls::print_calls;
 use contents::print_packing;
 use outcome::print_outcome;
 use plan::draft::Draft;
-use shown::{BIT, print_busy_period};
+use shown::busy::{BIT, print_busy_period};
 use truck::{Bank, Line, SCANNERS, SIGNALS, bank, signal};
 
 fn enter_all(rt: &HostRuntime, draft: &mut Draft<Bank>, lines: &[Line]) -> anyhow::Result<()> {

@@ -1,15 +1,16 @@
 // Prints the order of a plan with each frame's responses, or the frames that are in each other's way.
-use crate::truck::domain_name;
+use crate::truck::DOMAIN_NAMES;
 use domains::domain::{Domain, MOST_DOMAINS};
 use plan::closed::Closed;
 use plan::closed::order::Counted;
 use plan::fault::PlanFault;
+use shown::names::name_of;
 
 // How late frame n can be in each domain that carries it.
 fn print_responses<D: Domain>(rt: &HostRuntime, plan: &Closed<D>, n: usize) -> anyhow::Result<()> {
     for k in 0..MOST_DOMAINS {
         if let Ok(time) = plan.response(n, k) {
-            let name = domain_name(k);
+            let name = name_of(&DOMAIN_NAMES, k);
             print!(rt; "  {name} {time}")?;
         }
     }

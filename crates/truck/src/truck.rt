@@ -17,15 +17,7 @@ pub fn bank() -> Result<Bank, DomainFault> {
     Ok(Pair::new(Pair::new(drive, survey), Pair::new(gateway, link)))
 }
 
-pub fn domain_name(k: usize) -> &'static str {
-    match k {
-        0 => "drive bus",
-        1 => "survey bus",
-        2 => "gateway",
-        3 => "radio",
-        _ => "unknown",
-    }
-}
+pub const DOMAIN_NAMES: [&str; 4] = ["drive bus", "survey bus", "gateway", "radio"];
 
 const DRIVE: u8 = 1;
 

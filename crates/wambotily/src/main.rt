@@ -8,7 +8,8 @@ use frames::frame::Frame;
 use frames::row::Row;
 use gateway::gateway::Gateway;
 use radio::radio::Radio;
-use shown::{BIT, print_busy_period};
+use shown::busy::{BIT, print_busy_period};
+use shown::names::name_of;
 use timing::carried::{carries, in_time};
 use timing::ranked::response_at;
 
@@ -51,13 +52,7 @@ const FRAMES: [Row; 5] = [
     },
 ];
 
-fn domain_name(k: usize) -> &'static str {
-    match k {
-        0 => "gateway",
-        1 => "radio",
-        _ => "unknown",
-    }
-}
+const DOMAIN_NAMES: [&str; 2] = ["gateway", "radio"];
 
 // One line of the table: frame f in domain k.
 fn print_line<D: Domain>(
@@ -77,7 +72,7 @@ fn print_line<D: Domain>(
     } else {
         "late"
     };
-    let name = domain_name(k);
+    let name = name_of(&DOMAIN_NAMES, k);
     print!(rt;
         "{f:>5} {:>6} {:>4} {payload:>7} {:>9} {:>9} {name:<7} {cost:>8}",
         row.sender, row.fill, row.period, row.deadline
