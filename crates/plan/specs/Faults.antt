@@ -1,8 +1,17 @@
 -- The refusals of a plan by their numbers. Assumes nothing.
 use Rattle.std.specs.Prelude.{ℕ, [], ◌∷◌}
 use Rattle.domains.specs.Faults.{Refusal}
+use Rattle.frames.specs.declared.fault.RowFault.{RowFault}
+use Rattle.frames.specs.declared.fault.RowFault.TheVariants as R
 use Rattle.plan.specs.declared.fault.PlanFault.{PlanFault}
 use Rattle.plan.specs.declared.fault.PlanFault.TheVariants.{Sender, Size, Period, Deadline, Set, NameTaken, SignalsFull, FramesFull, NameUnknown, NoOrder, FrameUnknown, NotOrdered, NotCarried, NoConflict}
+
+-- the fault of a signal whose own frame breaks a limit
+abbrev pub plan_fault : RowFault → PlanFault
+plan_fault R.Fill = Size
+plan_fault R.Period = Period
+plan_fault R.Deadline = Deadline
+plan_fault R.Set = Set
 
 -- a refusal that has no values
 abbrev plain : ℕ → Refusal

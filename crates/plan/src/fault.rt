@@ -1,7 +1,8 @@
 // Why a call of a plan is refused.
 ghost use Rattle.std.specs.Prelude.{◌≡◌};
-ghost use Rattle.plan.specs.Faults.{plan_told};
+ghost use Rattle.plan.specs.Faults.{plan_fault, plan_told};
 
+use frames::fault::RowFault;
 use std::error::Error;
 use std::fmt;
 
@@ -53,6 +54,20 @@ impl PlanFault {
             PlanFault::NotOrdered => 13,
             PlanFault::NotCarried => 14,
             PlanFault::NoConflict => 15,
+        }
+    }
+}
+
+// A signal breaks the limit that a frame of its own would.
+impl From<RowFault> for PlanFault {
+    ghost from_gives = { λ e f. f ≡ plan_fault e };
+
+    fn from(fault: RowFault) -> PlanFault {
+        match fault {
+            RowFault::Fill => PlanFault::Size,
+            RowFault::Period => PlanFault::Period,
+            RowFault::Deadline => PlanFault::Deadline,
+            RowFault::Set => PlanFault::Set,
         }
     }
 }

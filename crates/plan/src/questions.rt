@@ -6,6 +6,8 @@ ghost use Rattle.plan.specs.Questions.{figure_questions, first_no, fault_of, Ask
 
 use crate::fault::PlanFault;
 use domains::domain::Domain;
+use frames::frame::Frame;
+use frames::row::Row;
 use packing::choice::Choice;
 use packing::choose::Entrant;
 use packing::tables::Tables;
@@ -23,16 +25,9 @@ fn check_figures(domains: usize, signal: &Signal) -> Result<(), PlanFault>
     if signal.sender > 15 {
         return Err(PlanFault::Sender);
     }
-    if signal.size < 1 || signal.size > 64 {
-        return Err(PlanFault::Size);
-    }
-    if signal.period < 1_000_000 || signal.period > 2_000_000_000 {
-        return Err(PlanFault::Period);
-    }
-    if signal.deadline < 1 || signal.deadline > signal.period {
-        return Err(PlanFault::Deadline);
-    }
-    if signal.set < 1 || signal.set as usize >= 1usize << domains {
+    // For the rest it has to be within what a frame of its own would be.
+    Frame::try_from(Row::from(*signal))?;
+    if signal.set as usize >= 1usize << domains {
         return Err(PlanFault::Set);
     }
     Ok(())

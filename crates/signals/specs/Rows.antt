@@ -18,6 +18,10 @@ row_by ss = record {
   set = fold (λ d s. bit_or d s.set) 0 ss;
 }
 
+-- of one signal
+abbrev pub alone : Signal → Row
+alone s = record { sender = s.sender; fill = s.size; period = s.period; deadline = s.deadline; set = s.set }
+
 -- with one signal more
 abbrev pub joined : Row → Signal → Row
 joined r s = record {

@@ -1,7 +1,7 @@
 // The row of a frame, worked out from the signals that ride in it.
 ghost use Rattle.std.specs.Prelude.{◌≡◌, ◌+◌, ◌≤◌};
 ghost use Rattle.signals.specs.Riders.{riders};
-ghost use Rattle.signals.specs.Rows.{joined, row_by};
+ghost use Rattle.signals.specs.Rows.{alone, joined, row_by};
 
 use crate::signal::{Entry, Signal};
 use frames::row::Row;
@@ -17,6 +17,21 @@ pub const BLANK: Row = Row {
     deadline: LONGEST,
     set: 0,
 };
+
+// The row of a frame that carries the signal alone.
+impl From<Signal> for Row {
+    ghost from_gives = { λ s r. r ≡ alone s };
+
+    fn from(signal: Signal) -> Row {
+        Row {
+            sender: signal.sender,
+            fill: signal.size,
+            period: signal.period,
+            deadline: signal.deadline,
+            set: signal.set,
+        }
+    }
+}
 
 // The row with one signal more.
 pub fn join(row: &Row, signal: &Signal) -> Row
