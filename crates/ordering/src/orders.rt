@@ -21,6 +21,7 @@ pub fn find_order<B: Domain>(frames: &Frames<B>) -> Result<Placement, Conflict>
 {
     let count = frames.rows.len();
     let mut places = [Place::Above; 96];
+    // As `ok_or_else` the proof did not close: it was told nothing of the closure's conflict.
     match arrange(frames, &mut places[..count], count) {
         Some(placement) => Ok(placement),
         None => Err(find_conflict(frames)),

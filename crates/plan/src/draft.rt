@@ -60,6 +60,8 @@ impl<B: Domain> Draft<B> {
         Ok(())
     }
 
+    // The counts and the weight stand in a draft and in a closed plan: a struct that both hold would make nine methods of
+    // six, and each clause longer.
     pub fn signal_count(&self) -> usize
         ensures { result ≡ length (held self.now.tables).signals }
     {

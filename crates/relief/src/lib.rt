@@ -22,6 +22,7 @@ fn left_out(places: [Place; 96], i: usize) -> [Place; 96]
     without
 }
 
+// The table is taken by value and has a fixed size: a frame is left out of a copy, and nothing here allocates.
 // By how much frame f of the rows is earlier in domain k without frame i; none where it has no response time.
 pub fn relief<D: Domain>(
     domain: &D,

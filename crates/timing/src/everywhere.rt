@@ -30,6 +30,7 @@ pub struct Trial<'a, B> {
     pub ghost long: { length places.now ≡ length rows.now },
 }
 
+// A number is of no list by itself, so each method asks that there is a frame f; whoever asks goes over the list.
 impl<B: Domain> Trial<'_, B> {
     // Where domain k is told that frame i stands: a frame that it does not carry is absent.
     fn told_place(&self, k: usize, i: usize) -> Place
@@ -41,7 +42,7 @@ impl<B: Domain> Trial<'_, B> {
         }
     }
 
-    // The table with the frames left out that domain k does not carry.
+    // The table with the frames left out that domain k does not carry; of a fixed size, since nothing here allocates.
     fn told(&self, k: usize) -> [Place; 96]
         ensures { let rows = self.now.rows.now in let places = self.now.places.now in (j : ℕ) → j < length rows → slice_index_or result j Up ≡ (if carried k (row_at rows j) then slice_index_or places j Up else Gone) }
     {

@@ -1,10 +1,11 @@
 // Replays a list of calls on a plan, those that are refused or that its state does not have among them.
-use crate::truck::{SIGNALS, signal};
+use crate::truck::SIGNALS;
 use anyhow::anyhow;
 use domains::domain::Domain;
 use plan::fault::PlanFault;
 use runs::call::{Answer, Call};
 use runs::replay::replay;
+use signals::signal::Signal;
 
 fn call_name(call: Call) -> &'static str {
     match call {
@@ -64,7 +65,7 @@ fn print_answers(rt: &HostRuntime, calls: &[Call], answers: &[Answer]) -> anyhow
 }
 
 pub fn print_calls<D: Domain + Drop>(rt: &HostRuntime, bank: D) -> anyhow::Result<()> {
-    let wheel = signal(SIGNALS[0]);
+    let wheel = Signal::from(SIGNALS[0]);
     let calls = [
         Call::Enter(wheel),
         Call::Enter(wheel),
@@ -81,8 +82,8 @@ pub fn print_calls<D: Domain + Drop>(rt: &HostRuntime, bank: D) -> anyhow::Resul
         Call::SignalCount,
     ];
     let mut answers = [Answer::NotAllowed; 13];
-    let Ok(_plan) = replay(bank, &calls, &mut answers) else {
-        return Err(anyhow!("there is no room for the answers"));
-    };
+    replay(bank, &calls, &mut answers).map_err(|_bank| anyhow!(
+        "there is no room for the answers"
+    ))?;
     print_answers(rt, &calls, &answers)
 }

@@ -15,10 +15,8 @@ fn print_riders<D: Domain>(
 ) -> anyhow::Result<()> {
     for line in lines {
         let name = line.0;
-        if let Ok(frame) = plan.frame_of(name) {
-            if frame == n {
-                print!(rt; " {name}")?;
-            }
+        if plan.frame_of(name) == Ok(n) {
+            print!(rt; " {name}")?;
         }
     }
     Ok(())

@@ -12,11 +12,12 @@ use contents::print_packing;
 use outcome::print_outcome;
 use plan::draft::Draft;
 use shown::busy::{BIT, print_busy_period};
-use truck::{Bank, Line, SCANNERS, SIGNALS, bank, signal};
+use signals::signal::Signal;
+use truck::{Bank, Line, SCANNERS, SIGNALS, bank};
 
 fn enter_all(rt: &HostRuntime, draft: &mut Draft<Bank>, lines: &[Line]) -> anyhow::Result<()> {
     for line in lines {
-        let signal = signal(*line);
+        let signal = Signal::from(*line);
         if let Err(fault) = draft.enter(signal) {
             let number = fault.number();
             println!(rt; "signal {} is refused with {number}", signal.name)?;

@@ -20,11 +20,9 @@ fn print_responses<D: Domain>(rt: &HostRuntime, plan: &Closed<D>, n: usize) -> a
 // The frame of that identifier.
 fn print_place<D: Domain>(rt: &HostRuntime, plan: &Closed<D>, wanted: u16) -> anyhow::Result<()> {
     for n in 0..plan.frame_count() {
-        if let Ok(identifier) = plan.identifier(n) {
-            if identifier == wanted {
-                print!(rt; "{identifier:>10} {n:>5}")?;
-                print_responses(rt, plan, n)?;
-            }
+        if plan.identifier(n) == Ok(wanted) {
+            print!(rt; "{wanted:>10} {n:>5}")?;
+            print_responses(rt, plan, n)?;
         }
     }
     Ok(())
@@ -56,7 +54,7 @@ fn print_conflict<D: Domain>(
     let number = fault.number();
     print!(rt; "There is no order (refusal {number}). In each other's way are frames")?;
     for n in 0..plan.frame_count() {
-        if let Ok(true) = plan.in_conflict(n) {
+        if plan.in_conflict(n) == Ok(true) {
             print!(rt; " {n}")?;
         }
     }

@@ -31,44 +31,47 @@ const BOTH: u8 = DRIVE | SURVEY | GATEWAY;
 
 const EVERYWHERE: u8 = BOTH | LINK;
 
-// Name, sender, size, period, deadline, and where it has to go.
-pub type Line = (u16, u8, u8, u64, u64, u8);
+// A signal as a line of a table: name, sender, size, period, deadline, and where it has to go.
+#[derive(Clone, Copy)]
+pub struct Line(pub u16, pub u8, pub u8, pub u64, pub u64, pub u8);
 
 pub const SIGNALS: [Line; 13] = [
     // The drive: wheel speed, steering angle, engine load.
-    (101, 1, 2, 10_000_000, 10_000_000, DRIVE),
-    (102, 1, 2, 10_000_000, 10_000_000, DRIVE),
-    (103, 1, 4, 20_000_000, 20_000_000, BOTH),
+    Line(101, 1, 2, 10_000_000, 10_000_000, DRIVE),
+    Line(102, 1, 2, 10_000_000, 10_000_000, DRIVE),
+    Line(103, 1, 4, 20_000_000, 20_000_000, BOTH),
     // The camera: tilt, a line of the profile, depth.
-    (201, 2, 4, 20_000_000, 15_000_000, SURVEY),
-    (202, 2, 48, 50_000_000, 50_000_000, SURVEY),
-    (203, 2, 4, 20_000_000, 20_000_000, EVERYWHERE),
+    Line(201, 2, 4, 20_000_000, 15_000_000, SURVEY),
+    Line(202, 2, 48, 50_000_000, 50_000_000, SURVEY),
+    Line(203, 2, 4, 20_000_000, 20_000_000, EVERYWHERE),
     // The drum: cable length, cable force.
-    (301, 3, 4, 20_000_000, 20_000_000, SURVEY),
-    (302, 3, 2, 10_000_000, 10_000_000, SURVEY),
+    Line(301, 3, 4, 20_000_000, 20_000_000, SURVEY),
+    Line(302, 3, 2, 10_000_000, 10_000_000, SURVEY),
     // The pump: pressure, valve.
-    (401, 4, 2, 5_000_000, 5_000_000, DRIVE),
-    (402, 4, 1, 100_000_000, 100_000_000, DRIVE),
+    Line(401, 4, 2, 5_000_000, 5_000_000, DRIVE),
+    Line(402, 4, 1, 100_000_000, 100_000_000, DRIVE),
     // The lights, and the air: gas, water level.
-    (501, 5, 1, 100_000_000, 100_000_000, SURVEY),
-    (601, 6, 6, 200_000_000, 100_000_000, EVERYWHERE),
-    (602, 6, 2, 500_000_000, 500_000_000, EVERYWHERE),
+    Line(501, 5, 1, 100_000_000, 100_000_000, SURVEY),
+    Line(601, 6, 6, 200_000_000, 100_000_000, EVERYWHERE),
+    Line(602, 6, 2, 500_000_000, 500_000_000, EVERYWHERE),
 ];
 
 // Two scanners more, each of which wants the survey bus at once.
 pub const SCANNERS: [Line; 2] = [
-    (701, 7, 64, 2_000_000, 600_000, SURVEY),
-    (801, 8, 64, 2_000_000, 600_000, SURVEY),
+    Line(701, 7, 64, 2_000_000, 600_000, SURVEY),
+    Line(801, 8, 64, 2_000_000, 600_000, SURVEY),
 ];
 
-pub fn signal(line: Line) -> Signal {
-    let (name, sender, size, period, deadline, set) = line;
-    Signal {
-        name,
-        sender,
-        size,
-        period,
-        deadline,
-        set,
+impl From<Line> for Signal {
+    fn from(line: Line) -> Signal {
+        let Line(name, sender, size, period, deadline, set) = line;
+        Signal {
+            name,
+            sender,
+            size,
+            period,
+            deadline,
+            set,
+        }
     }
 }
