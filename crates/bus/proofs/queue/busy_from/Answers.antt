@@ -1,22 +1,11 @@
-use Rattle.std.proofs.Common.{◌≡◌, ℕ, ◌+◌, ◌≤◌, List, ◌∷◌, length, sym, ap, ◌∙◌, subst, add-zero, arith}
+use Rattle.std.proofs.Common.{ℕ, ◌+◌, ◌≤◌, List, ◌∷◌, sym, ap, ◌∙◌, subst, add-zero, arith}
 use mathlib.Core.Path.{fun_ext}
-use Rattle.std.specs.List.{AllByRecursion}
 use Rattle.shelf.specs.Smallest.{solution}
 use Rattle.streams.specs.declared.stream.Stream.{Stream}
-use Rattle.streams.specs.Demands.{busy, demand, horizon, Fit}
-use Rattle.streams.proofs.Fitting.{all_fit, each_fits}
+use Rattle.streams.specs.Demands.{busy, demand, horizon}
 use Rattle.bus.specs.Buses.{busy_period}
 use Rattle.bus.specs.Bussing.{queue_starts}
 use Rattle.bus.proofs.queue.busy_from.Goals as goal
-
-pub new-requires : goal.new-requires
-new-requires c =
-    let v = c.args.view.now in
-    let queue = c.as_slice.ensures.value ∙ c.queue_of-queue.ensures in
-    record {
-      fit = each_fits _ (subst (AllByRecursion Fit) (sym queue) (v.fit, all_fit _ v.above.fit));
-      few = omega (arith, ap length queue, v.few);
-    }
 
 pub settle-requires : goal.settle-requires
 settle-requires c =

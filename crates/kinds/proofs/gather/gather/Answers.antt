@@ -8,18 +8,10 @@ use Rattle.domains.specs.Asked.{same, stance, picked, standing, no_row}
 use Rattle.domains.proofs.Places.{same_is}
 use Rattle.arrayvec.specs.ArrayVec.{ArrayVec}
 use Rattle.streams.specs.declared.stream.Stream.{Stream}
-use Rattle.kinds.specs.Gathered.{Gathered}
 use Rattle.kinds.specs.Rows.{stream_by}
-use Rattle.kinds.proofs.Gathering.{Gathering, gathering_none, gathering_skip, gathering_more, picked_fails}
+use Rattle.kinds.proofs.Gathering.{Gathering, gathering_skip, gathering_more, picked_fails}
 use Rattle.kinds.proofs.gather.gather.Goals as goal
 use Rattle.kinds.proofs.gather.gather.Goals.{then-eq+in-Ok, else-eq}
-
-pub loop-i-init : goal.loop-i-init
-loop-i-init g c =
-    subst (Gathering _ _ c.args.question.now.rows.now 0) (sym c.new-found.ensures) (gathering_none _ _ c.args.question.now.rows.now)
-
-pub push-requires : goal.push-requires
-push-requires g c = omega (arith, c.loop-i.invariant.few, c.requires)
 
 pub returns-in_default : goal.returns-in_default
 unfolding standing

@@ -4,7 +4,7 @@ use Rattle.timing.specs.Places.{by_number}
 use Rattle.timing.specs.Places.{row_at, above}
 use Rattle.domains.specs.declared.place.Place.TheVariants.{Absent}
 use Rattle.ordering.specs.Orders.{orderable, greedy}
-use Rattle.ordering.proofs.Dropping.{dropping_none, dropping_kept, dropping_out, dropping_all, trial_none, trial_count}
+use Rattle.ordering.proofs.Dropping.{dropping_none, dropping_kept, dropping_out, trial_none, trial_count}
 use Rattle.ordering.proofs.conflicts.find_conflict.Goals as goal
 use Rattle.ordering.proofs.conflicts.find_conflict.Goals.{then-not-has_order, else-not-has_order}
 
@@ -31,8 +31,3 @@ loop-f-preserved g c = elim c.if-not-has_order.branch [
   | then-not-has_order w ↦ rw (w.table-is, w.size-is) (dropping_out c.loop-f.invariant c.loop-f-test.true (told g c ∙ w.if-not-has_order.true))
   | else-not-has_order w ↦ rw (w.table-is, w.size-is) (dropping_kept c.loop-f.invariant c.loop-f-test.true (told g c ∙ w.if-not-has_order.false))
 ]
-
-pub returns : goal.returns
-returns g c =
-    let e = dropping_all c.loop-f.invariant c.loop-f-test.false in
-    record { table = e; rest = c.loop-f.invariant.tail; size = sym c.loop-f.invariant.count ∙ ap length e }

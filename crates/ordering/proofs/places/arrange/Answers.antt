@@ -4,7 +4,7 @@ use Rattle.timing.proofs.Combining.{everywhere_laws}
 use Rattle.std.proofs.Common.{◌<◌, length, sym, ◌∙◌, arith}
 use Rattle.timing.specs.Places.{above, tested}
 use Rattle.ordering.proofs.Greedy.{examined_most}
-use Rattle.ordering.proofs.Placing.{placing_none, placing_more, placing_end, placing_all, frame_within}
+use Rattle.ordering.proofs.Placing.{placing_none, placing_more, placing_end, frame_within}
 use Rattle.ordering.proofs.places.arrange.Goals as goal
 
 pub loop-places-init : goal.loop-places-init
@@ -33,6 +33,3 @@ pub returns-in_err-f : goal.returns-in_err-f
 returns-in_err-f g c =
     let room : length c.loop-places.placement.numbers.items < c.args.count = omega arith in
     rw c.from_residual.ensures (placing_end c.loop-places.invariant (everywhere_laws g.met.B.Domain.duties c.args.frames.now.bank.now) room (sym c.examine-looked.ensures.frame ∙ c.in_err-f.was))
-
-pub returns : goal.returns
-returns g c = placing_all c.loop-places.invariant (omega arith)

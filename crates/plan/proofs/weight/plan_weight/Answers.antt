@@ -1,7 +1,6 @@
-use Rattle.std.proofs.Common.{length, sym, ap, ◌∙◌, subst, arith}
+use Rattle.std.proofs.Common.{length, sym, ap, subst, arith}
 use Rattle.std.specs.List.{AllByRecursion}
 use Rattle.frames.specs.Limits.{Lawful}
-use Rattle.weights.specs.Weights.{rows_weight}
 use Rattle.packing.specs.Holds.{held}
 use Rattle.packing.proofs.Sounds.{to_sound, lawful_rows, few_rows}
 use Rattle.plan.proofs.weight.plan_weight.Goals as goal
@@ -14,7 +13,3 @@ rows_weight-requires g c =
       lawful = subst (AllByRecursion Lawful) (sym c.frame_rows.ensures) (lawful_rows p h.frames);
       few = omega (arith, ap length c.frame_rows.ensures, few_rows p c.args.tables.now.ok);
     }
-
-pub returns : goal.returns
-returns g c =
-    c.rows_weight.ensures ∙ ap (rows_weight (g.B.Domain.cost c.args.bank.now)) c.frame_rows.ensures

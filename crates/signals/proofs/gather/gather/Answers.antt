@@ -1,6 +1,4 @@
 use Rattle.std.proofs.Common.{sym, ap, ◌∙◌}
-use Rattle.std.proofs.lemmas.List.{take_all}
-use Rattle.signals.specs.Riders.{riders}
 use Rattle.signals.specs.Rows.{row_by}
 use Rattle.signals.proofs.Riding.{riders_nil}
 use Rattle.signals.proofs.Rowing.{row_nil, row_more, row_same, room_left}
@@ -19,7 +17,3 @@ loop-entry-preserved c = elim c.if-entry-n.branch [
   | then-entry-n w ↦ w.row-is ∙ w.join-row.ensures ∙ row_more c.args.n c.args.entries.now c.loop-entry.entry-index c.loop-entry-test.true c.loop-entry.row c.loop-entry.invariant w.if-entry-n.true
   | else-entry-n w ↦ w.row-is ∙ row_same c.args.n c.args.entries.now c.loop-entry.entry-index c.loop-entry-test.true c.loop-entry.row c.loop-entry.invariant w.if-entry-n.false
 ]
-
-pub returns : goal.returns
-returns c =
-    c.loop-entry.invariant ∙ ap (λ es. row_by (riders c.args.n es)) (take_all c.loop-entry.entry-index c.args.entries.now c.loop-entry-test.false)

@@ -1,14 +1,8 @@
-use Rattle.std.proofs.Common.{ap, ◌∙◌, arith}
+use Rattle.std.proofs.Common.{ap, ◌∙◌}
 use Rattle.kinds.proofs.Seeing.{seen_is}
 use Rattle.bus.specs.Buses.{bus_price, busy_period, bus_busy}
 use Rattle.bus.proofs.Instances.{blocking_is}
 use Rattle.bus.proofs.bus.Bus.busy_period.Goals as goal
-
-pub returns-in_err-streams : goal.returns-in_err-streams
-returns-in_err-streams c = c.from_residual.ensures ∙ c.in_err-streams.ensures _
-
-pub busy_from-requires : goal.busy_from-requires
-busy_from-requires c = omega (arith, c.largest_cost.ensures.low)
 
 pub returns : goal.returns
 returns c =

@@ -1,13 +1,8 @@
 use Rattle.std.proofs.Common.{◌<◌, ◌≤◌, ap, ◌∙◌, arith}
 use Rattle.streams.specs.Demands.{ceil}
-use Rattle.streams.proofs.Fitting.{all_fit}
 use Rattle.bus.specs.Buses.{instance_by}
 use Rattle.bus.proofs.Instances.{blocking_is, instance_none, instance_past, instance_found}
 use Rattle.bus.proofs.bus.Bus.instance_of.Goals as goal
-
-pub busy_from-requires : goal.busy_from-requires
-busy_from-requires c =
-    omega (arith, c.largest_cost-b.ensures.low)
 
 pub returns-in_err-busy : goal.returns-in_err-busy
 returns-in_err-busy c =
@@ -21,19 +16,6 @@ returns-then-q-div_up c =
     let past : ceil c.in_ok-busy.busy c.args.view.now.own.period ≤ c.args.q = omega (arith, c.div_up.ensures.is) in
     instance_past a c.args.view.now.own c.args.view.now.above.streams.now _ c.in_ok-busy.busy c.args.q c.in_ok-busy.ensures.is past
     ∙ ap (λ b. instance_by a c.args.view.now.own c.args.view.now.above.streams.now b c.args.q) (blocking_is _ _ c.largest_cost-b.ensures.is)
-
-pub delay_of-requires : goal.delay_of-requires
-delay_of-requires c =
-    record {
-      own = c.requires;
-      blocked = omega (arith, c.largest_cost-b.ensures.low);
-      within = (c.in_ok-busy.busy, c.in_ok-busy.ensures.is, omega (arith, c.div_up.ensures.is));
-      rises = omega arith;
-      below = λ v e. omega arith;
-    }
-
-pub overflow_sub-result : goal.overflow_sub-result
-overflow_sub-result c = omega (arith, c.delay_of.ensures.begins)
 
 pub returns : goal.returns
 returns c =

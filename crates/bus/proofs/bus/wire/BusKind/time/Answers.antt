@@ -1,15 +1,11 @@
-use Rattle.std.proofs.Common.{◌≡◌, ◌+◌, ◌-◌, ◌*◌, max, sym, refl, ap, ◌∙◌, subst, arith}
+use Rattle.std.proofs.Common.{◌≡◌, ◌+◌, ◌-◌, ◌*◌, sym, refl, ap, ◌∙◌, subst, arith}
 use Rattle.streams.proofs.Fitting.{all_fit}
 use Rattle.bus.specs.Answers.{BusAnswer}
 use Rattle.bus.specs.Buses.{blocking, response_by}
 use Rattle.bus.specs.Bussing.{response_answer}
-use Rattle.bus.proofs.Instances.{instances_none, instances_more, blocking_is, no_end, worst_found}
+use Rattle.bus.proofs.Instances.{instances_more, blocking_is, no_end, worst_found}
 use Rattle.bus.specs.Wiring.{short}
 use Rattle.bus.proofs.bus.wire.BusKind.time.Goals as goal
-
-pub busy_from-requires : goal.busy_from-requires
-busy_from-requires c =
-    omega (arith, c.largest_cost-b.ensures.low)
 
 pub returns-in_err-busy : goal.returns-in_err-busy
 returns-in_err-busy c =
@@ -18,22 +14,6 @@ returns-in_err-busy c =
     let us = c.args.view.now.above.streams.now in
     let is = c.from_residual.ensures ∙ no_end a own us _ c.in_err-busy.ensures.is ∙ ap (response_by a own us) (blocking_is _ _ c.largest_cost-b.ensures.is) in
     record { is = is; words = subst (BusAnswer a own us (blocking c.args.view.now.below.streams.now)) (sym is) (response_answer a own us (blocking c.args.view.now.below.streams.now) c.requires.fit (short c.args.self.now own c.requires) (all_fit _ c.args.view.now.above.fit)) }
-
-pub loop-q-init : goal.loop-q-init
-loop-q-init c = instances_none _ _ _ _
-
-pub delay_of-requires : goal.delay_of-requires
-delay_of-requires c =
-    record {
-      own = c.requires;
-      blocked = omega (arith, c.largest_cost-b.ensures.low);
-      within = (c.in_ok-busy.busy, c.in_ok-busy.ensures.is, omega (arith, c.div_up-instances.ensures.is));
-      rises = c.loop-q.invariant.rises;
-      below = c.loop-q.invariant.below;
-    }
-
-pub overflow_sub-known : goal.overflow_sub-known
-overflow_sub-known c = omega (arith, c.delay_of.ensures.begins)
 
 pub loop-q-preserved : goal.loop-q-preserved
 loop-q-preserved c =

@@ -1,15 +1,10 @@
-use Rattle.std.proofs.Common.{ℕ, ◌+◌, sym, ap, ◌∙◌, subst, add-zero, arith}
+use Rattle.std.proofs.Common.{ℕ, ◌+◌, sym, ap, ◌∙◌, subst, add-zero}
 use mathlib.Core.Path.{fun_ext}
 use Rattle.shelf.specs.Smallest.{solution}
 use Rattle.streams.specs.Demands.{demand, horizon}
 use Rattle.gateway.specs.Gateways.{relayed, Relayed}
 use Rattle.gateway.specs.Relays.{relayed_is}
 use Rattle.gateway.proofs.gateway.relay.GatewayKind.time.Goals as goal
-
-pub settle-requires : goal.settle-requires
-settle-requires c =
-    let fit = c.args.view.now.fit in
-    record { small = omega (arith, fit.priced); near = omega arith; early = omega arith; rises = omega (arith, fit.priced); below = λ v h e. omega arith }
 
 pub returns : goal.returns
 unfolding relayed
