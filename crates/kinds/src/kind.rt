@@ -1,6 +1,8 @@
 // A kind of domain, by what it makes of streams.
-ghost use Rattle.std.specs.Prelude.{◌≡◌, ℕ, List, Option};
+ghost use Rattle.std.specs.Prelude.{◌≡◌, ℕ, ◌≤◌, List, length, Option};
+ghost use Rattle.std.specs.List.{AllByRecursion};
 ghost use Rattle.streams.specs.declared.stream.Stream.{Stream};
+ghost use Rattle.streams.specs.Demands.{Fit};
 ghost use Rattle.kinds.specs.KindLaws.{KindLaws, Own};
 
 use crate::view::View;
@@ -16,8 +18,10 @@ pub trait Kind {
         ensures { result ≡ price self.now payload };
 
     fn time(&self, view: &View<'_>) -> Option<u64>
-        requires { Own (price self.now) view.now.own }
-        ensures { result ≡ time self.now view.now.own view.now.above.streams.now view.now.below.streams.now };
+        requires own { Own (price self.now) view.now.own }
+        requires under { AllByRecursion Fit view.now.below.now }
+        requires less { length view.now.below.now ≤ 96 }
+        ensures { result ≡ time self.now view.now.own view.now.above.streams.now view.now.below.now };
 
     // The duties, for streams.
     ghost kept: { KindLaws price time };

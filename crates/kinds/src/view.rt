@@ -17,27 +17,28 @@ pub struct Streams {
     ghost under: { All Fit below.items },
 }
 
-// As a kind of domain is asked.
+// As a kind of domain is asked. What stands below does not matter to each kind, so only those to whom it does ask that it
+// is within its limits.
 #[derive(Clone, Copy)]
 pub struct View<'a> {
     pub own: Stream,
     pub above: Load<'a>,
-    pub below: Load<'a>,
+    pub below: &'a [Stream],
     ghost fit: { Fit own },
     ghost few: { length above.streams.now ≤ 96 },
-    ghost less: { length below.streams.now ≤ 96 },
 }
 
 impl Streams {
     pub fn view(&self) -> View<'_>
         ensures own { result.own ≡ self.now.own }
         ensures above { result.above.streams.now ≡ self.now.above.items }
-        ensures below { result.below.streams.now ≡ self.now.below.items }
+        ensures below { result.below.now ≡ self.now.below.items }
+        ensures less { length result.below.now ≤ 96 }
     {
         View {
             own: self.own,
             above: Load::new(self.above.as_slice()),
-            below: Load::new(self.below.as_slice()),
+            below: self.below.as_slice(),
         }
     }
 }

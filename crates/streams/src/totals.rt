@@ -1,6 +1,8 @@
-// Figures of many streams together.
-ghost use Rattle.std.specs.Prelude.{◌≡◌};
-ghost use Rattle.shelf.specs.Folds.{least};
+// Figures of any number of streams together.
+ghost use Rattle.std.specs.Prelude.{◌≡◌, ◌≤◌};
+ghost use Rattle.std.specs.List.{AllByRecursion};
+ghost use Rattle.shelf.specs.Folds.{least, most};
+ghost use Rattle.streams.specs.Demands.{Fit};
 
 use crate::stream::Stream;
 
@@ -13,4 +15,17 @@ pub fn least_period(first: u64, streams: &[Stream]) -> u64
         smallest = smallest.min(stream.period);
     }
     smallest
+}
+
+// The largest of the streams' costs, or 0.
+pub fn largest_cost(streams: &[Stream]) -> u64
+    requires { AllByRecursion Fit streams.now }
+    ensures is { result ≡ most (λ s. s.cost) streams.now }
+    ensures low { result ≤ 20000000 }
+{
+    let mut largest: u64 = 0;
+    for stream in streams {
+        largest = largest.max(stream.cost);
+    }
+    largest
 }

@@ -1,7 +1,6 @@
 // What lies behind the answer of a bus: the busy period, and each of its instances.
 ghost use Rattle.std.specs.Prelude.{◌≡◌};
 ghost use Rattle.domains.specs.Asked.{asked};
-ghost use Rattle.kinds.specs.KindLaws.{Own};
 ghost use Rattle.kinds.specs.Rows.{of_streams};
 ghost use Rattle.bus.specs.Buses.{bus_price, bus_busy, bus_instance};
 
@@ -9,8 +8,8 @@ use crate::bus::Bus;
 use crate::queue::busy_from;
 use domains::question::Question;
 use kinds::look::look;
-use kinds::view::View;
 use streams::rounding::div_up;
+use streams::totals::largest_cost;
 
 impl Bus {
     // How long the bus is busy with frame f and those above it, at the worst; none where that has no end up to the horizon.
@@ -19,7 +18,7 @@ impl Bus {
     {
         let streams = look(self, question)?;
         let view = streams.view();
-        busy_from(&view, view.below.largest_cost())
+        busy_from(&view, largest_cost(view.below))
     }
 
     // The response time of instance q of that busy period, counted from 0; none past its last instance.
@@ -27,18 +26,12 @@ impl Bus {
         ensures { result ≡ asked (of_streams (bus_price self.now) (bus_instance self.now.arbitration q)) question.now.rows.now question.now.places.now question.now.frame }
     {
         let streams = look(self, question)?;
-        self.instance_of(&streams.view(), q)
-    }
-
-    fn instance_of(&self, view: &View<'_>, q: u64) -> Option<u64>
-        requires { Own (bus_price self.now) view.now.own }
-        ensures { result ≡ bus_instance self.now.arbitration q view.now.own view.now.above.streams.now view.now.below.streams.now }
-    {
-        let b = view.below.largest_cost();
-        let busy = busy_from(view, b)?;
+        let view = streams.view();
+        let b = largest_cost(view.below);
+        let busy = busy_from(&view, b)?;
         if q >= div_up(busy, view.own.period) {
             return None;
         }
-        Some(self.delay_of(view, b, q, 0) + view.own.cost - q * view.own.period)
+        Some(self.delay_of(&view, b, q, 0) + view.own.cost - q * view.own.period)
     }
 }

@@ -1,5 +1,7 @@
 // The CAN FD bus as a domain.
 ghost use Rattle.std.specs.Prelude.{◌≡◌, [], ◌∷◌};
+ghost use Rattle.std.specs.List.{AllByRecursion};
+ghost use Rattle.streams.specs.Demands.{Fit};
 ghost use Rattle.domains.specs.Faults.{Made, limited};
 ghost use Rattle.kinds.specs.KindLaws.{Own};
 ghost use Rattle.kinds.specs.Rows.{one, alone_cost, alone_response};
@@ -19,6 +21,7 @@ use kinds::alone::{answer_alone, cost_alone};
 use kinds::kind::Kind;
 use kinds::view::View;
 use streams::rounding::div_up;
+use streams::totals::largest_cost;
 
 impl Bus {
     // A bus whose arbitration bits take 1,000 to 8,000 nanoseconds, and its data bits 125 up to as long.
@@ -49,11 +52,12 @@ impl Kind for Bus {
 
     // Every instance of the busy period counts: a later one can be later than the first.
     fn time(&self, view: &View<'_>) -> Option<u64>
-        requires { Own (bus_price self.now) view.now.own }
-        ensures is { result ≡ bus_time self.now.arbitration view.now.own view.now.above.streams.now view.now.below.streams.now }
-        ensures words { BusAnswer self.now.arbitration view.now.own view.now.above.streams.now (blocking view.now.below.streams.now) result }
+        requires own { Own (bus_price self.now) view.now.own }
+        requires under { AllByRecursion Fit view.now.below.now }
+        ensures is { result ≡ bus_time self.now.arbitration view.now.own view.now.above.streams.now view.now.below.now }
+        ensures words { BusAnswer self.now.arbitration view.now.own view.now.above.streams.now (blocking view.now.below.now) result }
     {
-        let b = view.below.largest_cost();
+        let b = largest_cost(view.below);
         let busy = busy_from(view, b)?;
         let instances = div_up(busy, view.own.period);
         let mut worst: u64 = 0;

@@ -40,7 +40,7 @@ impl Kind for Gateway {
 
     // A smallest solution, or none up to the horizon: frames below it do not matter.
     fn time(&self, view: &View<'_>) -> Option<u64>
-        ensures is { result ≡ relayed view.now.own view.now.above.streams.now view.now.below.streams.now }
+        ensures is { result ≡ relayed view.now.own view.now.above.streams.now view.now.below.now }
         ensures smallest { Relayed view.now.own view.now.above.streams.now result }
     {
         view.above.settle(view.own.cost, 0, 1, 0)

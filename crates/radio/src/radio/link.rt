@@ -15,6 +15,7 @@ use frames::frame::Frame;
 use kinds::alone::{answer_alone, cost_alone};
 use kinds::kind::Kind;
 use kinds::view::View;
+use streams::load::Load;
 use streams::totals::least_period;
 
 impl Radio {
@@ -39,9 +40,9 @@ impl Kind for Radio {
     }
 
     fn time(&self, view: &View<'_>) -> Option<u64> {
-        let sum = view.own.cost + view.above.total_cost() + view.below.total_cost();
+        let sum = view.own.cost + view.above.total_cost() + Load::new(view.below).total_cost();
         let period = least_period(view.own.period, view.above.as_slice());
-        let period = least_period(period, view.below.as_slice());
+        let period = least_period(period, view.below);
         if sum <= period { Some(sum) } else { None }
     }
 }

@@ -1,6 +1,5 @@
-// What streams cost together, and at the most.
+// What streams cost together.
 ghost use Rattle.std.specs.Prelude.{◌≡◌, ◌*◌, ◌≤◌, length};
-ghost use Rattle.shelf.specs.Folds.{most};
 ghost use Rattle.streams.specs.Demands.{total};
 
 use crate::load::Load;
@@ -16,17 +15,5 @@ impl Load<'_> {
             sum += stream.cost;
         }
         sum
-    }
-
-    // The largest of the streams' costs, or 0.
-    pub fn largest_cost(&self) -> u64
-        ensures is { result ≡ most (λ s. s.cost) self.now.streams.now }
-        ensures low { result ≤ 20000000 }
-    {
-        let mut largest: u64 = 0;
-        for stream in self.streams {
-            largest = largest.max(stream.cost);
-        }
-        largest
     }
 }

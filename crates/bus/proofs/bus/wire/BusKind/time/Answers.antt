@@ -13,7 +13,7 @@ returns-in_err-busy c =
     let own = c.args.view.now.own in
     let us = c.args.view.now.above.streams.now in
     let is = c.from_residual.ensures ∙ no_end a own us _ c.in_err-busy.ensures.is ∙ ap (response_by a own us) (blocking_is _ _ c.largest_cost-b.ensures.is) in
-    record { is = is; words = subst (BusAnswer a own us (blocking c.args.view.now.below.streams.now)) (sym is) (response_answer a own us (blocking c.args.view.now.below.streams.now) c.requires.fit (short c.args.self.now own c.requires) (all_fit _ c.args.view.now.above.fit)) }
+    record { is = is; words = subst (BusAnswer a own us (blocking c.args.view.now.below.now)) (sym is) (response_answer a own us (blocking c.args.view.now.below.now) c.requires.own.fit (short c.args.self.now own c.requires.own) (all_fit _ c.args.view.now.above.fit)) }
 
 pub loop-q-preserved : goal.loop-q-preserved
 loop-q-preserved c =
@@ -27,4 +27,4 @@ returns c =
     let us = c.args.view.now.above.streams.now in
     let all : c.loop-q.q ≡ c.div_up-instances.result = omega arith in
     let is = worst_found a own us _ c.in_ok-busy.busy c.loop-q.q c.loop-q.worst c.in_ok-busy.ensures.is (all ∙ c.div_up-instances.ensures.is) c.loop-q.invariant.worst_is ∙ ap (response_by a own us) (blocking_is _ _ c.largest_cost-b.ensures.is) in
-    record { is = is; words = subst (BusAnswer a own us (blocking c.args.view.now.below.streams.now)) (sym is) (response_answer a own us (blocking c.args.view.now.below.streams.now) c.requires.fit (short c.args.self.now own c.requires) (all_fit _ c.args.view.now.above.fit)) }
+    record { is = is; words = subst (BusAnswer a own us (blocking c.args.view.now.below.now)) (sym is) (response_answer a own us (blocking c.args.view.now.below.now) c.requires.own.fit (short c.args.self.now own c.requires.own) (all_fit _ c.args.view.now.above.fit)) }

@@ -12,4 +12,4 @@ returns c =
     let v = c.args.view.now in
     let above = v.above.streams.now in
     let is = c.settle.ensures.is ∙ ap (λ (rule : ℕ → ℕ). solution rule 1 horizon) (fun_ext (λ w. ap (λ n. v.own.cost + demand above n) (add-zero w))) in
-    record { is = is; smallest = subst (Relayed v.own above) (sym is) (relayed_is v.own above v.below.streams.now) }
+    record { is = is; smallest = subst (Relayed v.own above) (sym is) (relayed_is v.own above v.below.now) }
