@@ -30,7 +30,6 @@ pub struct Trial<'a, B> {
     pub ghost long: { length places.now ≡ length rows.now },
 }
 
-// A number is of no list by itself, so each method asks that there is a frame f; whoever asks goes over the list.
 impl<B: Domain> Trial<'_, B> {
     // Where domain k is told that frame i stands: a frame that it does not carry is absent.
     fn told_place(&self, k: usize, i: usize) -> Place
@@ -65,16 +64,16 @@ impl<B: Domain> Trial<'_, B> {
 
     // Whether frame f is in time in domain k, or not carried there.
     fn in_time_in(&self, f: usize, k: usize) -> bool
-        requires { f < length self.now.rows.now }
         ensures { let rows = self.now.rows.now in let places = self.now.places.now in result ≡ in_domain (B.response self.now.bank.now) k (row_at rows f) (rows_above rows places f) (rows_below rows places f) }
     {
-        let row = &self.rows[f];
-        !carries(k, row.set) || in_time(self.response_in(f, k), row.deadline)
+        match self.rows.get(f) {
+            Some(row) if carries(k, row.set) => in_time(self.response_in(f, k), row.deadline),
+            _ => true,
+        }
     }
 
-    // Whether frame f is in time in every domain of its set.
+    // Whether frame f is in time in every domain of its set. A number that is not in the list is late nowhere.
     pub fn in_time(&self, f: usize) -> bool
-        requires { f < length self.now.rows.now }
         ensures { let rows = self.now.rows.now in let places = self.now.places.now in result ≡ tested (everywhere (B.response self.now.bank.now)) rows places f }
     {
         (0..MOST_DOMAINS).all(|k| self.in_time_in(f, k))

@@ -1,10 +1,7 @@
-use Rattle.std.proofs.Common.{Some, sym, subst}
+use Rattle.std.proofs.Common.{Some, subst}
 use Rattle.shelf.specs.Times.{NoLater}
-use Rattle.relief.proofs.Lowering.{eased, still_some, gain, gains_none}
+use Rattle.relief.proofs.Lowering.{eased, still_some, gain}
 use Rattle.relief.proofs.relief.Goals as goal
-
-pub returns-in_err-before : goal.returns-in_err-before
-returns-in_err-before g c = gains_none _ _ _ (sym c.in_err-before.ensures) c.from_residual.ensures
 
 pub unwrap-after-requires : goal.unwrap-after-requires
 unwrap-after-requires g c =

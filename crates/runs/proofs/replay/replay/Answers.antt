@@ -1,32 +1,14 @@
-use Rattle.std.proofs.Common.{◌≡◌, ◌<◌, ◌≤◌, map, length, get_or, take, sym, ap, ◌∙◌, subst, arith, drop-set-lt}
-use Rattle.signals.specs.Names.{no_entry}
+use Rattle.std.proofs.Common.{◌≡◌, ◌≤◌, map, length, take, sym, ap, ◌∙◌, subst, arith}
 use Rattle.timing.proofs.Combining.{everywhere_laws}
 use Rattle.weights.proofs.Weighing.{cost_grows}
 use Rattle.plan.specs.Banks.{bank_of}
-use Rattle.runs.specs.declared.call.Call.{Call}
-use Rattle.runs.specs.declared.call.Call.TheVariants.{Enter}
-use Rattle.runs.specs.Books.{step, run, replies, new, draft}
+use Rattle.runs.specs.Books.{run, replies, new, draft}
 use Rattle.runs.specs.Holds.{plan_book}
 use Rattle.runs.specs.Promise.{Promise}
 use Rattle.runs.specs.Replies.{told}
 use Rattle.runs.proofs.Promises.{promised}
-use Rattle.runs.proofs.Turning.{run_more, told_more, run_all, told_all}
+use Rattle.runs.proofs.Turning.{run_all, told_all}
 use Rattle.runs.proofs.replay.replay.Goals as goal
-
-pub loop-i-preserved : goal.loop-i-preserved
-loop-i-preserved g c =
-    let x = c.new.result.bank in
-    let m = bank_of (g.B.Domain.count x) (g.B.Domain.cost x) (g.B.Domain.response x) in
-    let cs = c.args.calls.now in
-    let i = c.loop-i.i in
-    let b = plan_book c.loop-i.plan in
-    let p = c.loop-i.invariant in
-    let d : Call = Enter no_entry.signal in
-    let lt : i < length cs = c.loop-i-test.true in
-    let room : i < length c.loop-i.answers = omega (arith, c.loop-i.auto.answers) in
-    let e : plan_book c.apply-next.result.0 ≡ (step m b (get_or cs i d)).after = c.apply-next.ensures.book ∙ ap (λ w. (step (bank_of (g.B.Domain.count w) (g.B.Domain.cost w) (g.B.Domain.response w)) b (get_or cs i d)).after) p.0 in
-    let f : told c.apply-next.result.1 ≡ (step m b (get_or cs i d)).reply = c.apply-next.ensures.says ∙ ap (λ w. (step (bank_of (g.B.Domain.count w) (g.B.Domain.cost w) (g.B.Domain.response w)) b (get_or cs i d)).reply) p.0 in
-    (c.apply-next.ensures.bank ∙ p.0, run_more m cs i b _ d lt e ∙ p.1, told_more m cs i b _ d c.apply-next.result.1 c.loop-i.answers lt room e f ∙ p.2, drop-set-lt (length cs) c.loop-i.answers i c.apply-next.result.1 lt ∙ p.3)
 
 pub returns : goal.returns
 returns g c =

@@ -20,9 +20,6 @@ pub returns-then-row-self-gt-MAX_FILL : goal.returns-then-row-self-gt-MAX_FILL
 returns-then-row-self-gt-MAX_FILL g c =
     too_full _ (held c.args.self.now.tables.now) c.args.self.now.signal.now c.args.n c.requires (omega (arith, ap (λ r. r.fill) c.row-row.ensures, c.if-row-self-gt-MAX_FILL.true))
 
-pub row_with-requires : goal.row_with-requires
-row_with-requires g c = omega (arith, ap (λ r. r.fill) c.row-row.ensures, c.if-row-self-gt-MAX_FILL.false)
-
 pub row_weight-after-requires : goal.row_weight-after-requires
 row_weight-after-requires g c =
     subst Lawful (sym c.row_with.ensures) (lawful_with (g.D.Domain.cost c.args.self.now.bank.now) (held c.args.self.now.tables.now) c.args.self.now.signal.now c.args.n (to_sound _ c.args.self.now.tables.now.ok) c.args.self.now.lawful (omega (arith, ap (λ r. r.fill) c.row-row.ensures, c.if-row-self-gt-MAX_FILL.false)))

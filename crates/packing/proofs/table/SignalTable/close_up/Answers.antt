@@ -1,7 +1,6 @@
-use Rattle.std.proofs.Common.{◌≡◌, map, length, set, get_or, ap, ◌∙◌, arith}
-use Rattle.std.proofs.lemmas.List.{take_all, drop_all, append-nil, get_or_default}
+use Rattle.std.proofs.Common.{set, get_or, ap, ◌∙◌, arith}
+use Rattle.std.proofs.lemmas.List.{get_or_default}
 use Rattle.std.proofs.lemmas.List.Edits.{map_over_more}
-use Rattle.arrayvec.proofs.ArrayVecLemmas.{items-with_items}
 use Rattle.signals.specs.Names.{no_entry}
 use Rattle.packing.specs.Packings.{lower}
 use Rattle.packing.proofs.table.SignalTable.close_up.Goals as goal
@@ -13,8 +12,3 @@ loop-entry-preserved c =
     let read = get_or xs i no_entry in
     ap (λ n. set xs i (record { signal = read.signal; frame = n })) c.moved_up-entry.ensures
     ∙ map_over_more (lower c.args.f) c.as_mut_slice-entry-items.result.now xs i read (omega arith) c.loop-entry.invariant (get_or_default xs i _ _ (omega arith))
-
-pub returns : goal.returns
-returns c =
-    let all : c.loop-entry.entry-items ≡ map (lower c.args.f) c.args.self.now.entries.items = grind (arith, take_all, drop_all, append-nil) in
-    items-with_items c.args.self.now.entries c.loop-entry.entry-items (omega (arith, ap length c.as_mut_slice-entry-items.ensures.value)) ∙ all
