@@ -4,3 +4,4 @@ pub mod Faults
 pub mod Pairs
 pub mod Replies
 pub mod Pairing
+pub mod Texts

@@ -1,6 +1,7 @@
 // Why a domain cannot be made.
-ghost use Rattle.std.specs.Prelude.{◌≡◌};
+ghost use Rattle.std.specs.Prelude.{◌≡◌, Some};
 ghost use Rattle.domains.specs.Faults.{domain_told};
+ghost use Rattle.domains.specs.Texts.{domain_fault_text};
 
 use std::error::Error;
 use std::fmt;
@@ -26,6 +27,8 @@ impl DomainFault {
 }
 
 impl fmt::Display for DomainFault {
+    ghost output = { λ e. Some (domain_fault_text e) };
+
     fn fmt<W: fmt::Write>(&self, f: &mut fmt::Formatter<W>) -> fmt::Result {
         f.write_str(match self {
             DomainFault::FirstFigure => "the first figure of a domain is outside its limits",

@@ -47,6 +47,7 @@ impl<A: Domain, B: Domain> Domain for Pair<A, B> {
         }
     }
 
+    // The same sides as for a cost; a function that takes a closure for each would be longer than the branches.
     fn answer(&self, k: usize, question: &Question<'_>) -> Option<u64> {
         if k >= MOST_DOMAINS {
             return None;

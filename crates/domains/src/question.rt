@@ -5,6 +5,7 @@ ghost use Rattle.domains.specs.Asked.{stance};
 use crate::place::Place;
 use frames::row::Row;
 
+// The places are a slice beside the rows, since they change from question to question while the rows stay.
 #[derive(Clone, Copy)]
 pub struct Question<'a> {
     pub rows: &'a [Row],

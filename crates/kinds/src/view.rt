@@ -6,7 +6,7 @@ use arrayvec::ArrayVec;
 use streams::load::Load;
 use streams::stream::Stream;
 
-// As they are gathered.
+// As they are gathered and held; `View` lends them.
 #[derive(Drop)]
 pub struct Streams {
     pub(crate) own: Stream,

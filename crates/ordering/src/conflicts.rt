@@ -11,8 +11,8 @@ use domains::domain::Domain;
 use domains::place::Place;
 use timing::everywhere::Frames;
 
-// The frames of a conflict are those that the table has above, and so many are they. The table has a place for every
-// frame that there may be, so the size is no length of it.
+// The frames of a conflict are those that the table has above, and so many are they. A list of their numbers would be no
+// plainer: the filter and the reading of a member both go by number.
 #[derive(Clone, Copy)]
 pub struct Conflict {
     pub size: usize,

@@ -10,7 +10,7 @@ use domains::place::Place;
 use timing::everywhere::Frames;
 
 // The number of the frame at each place, and how many examinations it took.
-#[derive(Drop)]
+#[derive(Clone, Drop)]
 pub struct Placement {
     pub examinations: usize,
     pub numbers: ArrayVec<u8, 96>,

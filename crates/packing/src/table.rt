@@ -2,7 +2,7 @@
 use arrayvec::ArrayVec;
 use signals::signal::Entry;
 
-#[derive(Drop)]
+#[derive(Clone, Drop)]
 pub struct SignalTable {
     pub(crate) entries: ArrayVec<Entry, 256>,
 }

@@ -7,3 +7,4 @@ pub mod Questions
 pub mod Said
 pub mod Stands
 pub mod Subject
+pub mod Texts

@@ -23,6 +23,8 @@ pub struct Draft<B> {
     pub(crate) tables: Tables,
 }
 
+// Counts and weight stand in a draft and in a closed plan: a struct that both hold would make nine methods of six, and
+// each clause longer.
 impl<B: Domain> Draft<B> {
     pub fn new(bank: B) -> Draft<B>
         ensures bank { result.bank ≡ bank }
@@ -60,8 +62,6 @@ impl<B: Domain> Draft<B> {
         Ok(())
     }
 
-    // The counts and the weight stand in a draft and in a closed plan: a struct that both hold would make nine methods of
-    // six, and each clause longer.
     pub fn signal_count(&self) -> usize
         ensures { result ≡ length (held self.now.tables).signals }
     {

@@ -1,6 +1,7 @@
 // Why a call of a plan is refused.
-ghost use Rattle.std.specs.Prelude.{◌≡◌};
+ghost use Rattle.std.specs.Prelude.{◌≡◌, Some};
 ghost use Rattle.plan.specs.Faults.{plan_fault, plan_told};
+ghost use Rattle.plan.specs.Texts.{plan_fault_text};
 
 use frames::fault::RowFault;
 use std::error::Error;
@@ -73,6 +74,8 @@ impl From<RowFault> for PlanFault {
 }
 
 impl fmt::Display for PlanFault {
+    ghost output = { λ e. Some (plan_fault_text e) };
+
     fn fmt<W: fmt::Write>(&self, f: &mut fmt::Formatter<W>) -> fmt::Result {
         f.write_str(match self {
             PlanFault::Sender => "the sender of a signal is outside its limits",

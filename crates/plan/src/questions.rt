@@ -27,7 +27,7 @@ fn check_figures(domains: usize, signal: &Signal) -> Result<(), PlanFault>
     }
     // For the rest it has to be within what a frame of its own would be.
     Frame::try_from(Row::from(*signal))?;
-    if signal.set as usize >= 1usize << domains {
+    if usize::from(signal.set) >= 1usize << domains {
         return Err(PlanFault::Set);
     }
     Ok(())

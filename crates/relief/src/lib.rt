@@ -22,8 +22,8 @@ fn left_out(places: [Place; 96], i: usize) -> [Place; 96]
     without
 }
 
-// The table is taken by value and has a fixed size: a frame is left out of a copy, and nothing here allocates.
 // By how much frame f of the rows is earlier in domain k without frame i; none where it has no response time.
+// The table is an array by value: a frame is left out of a copy, and a slice of any length cannot be copied without a heap.
 pub fn relief<D: Domain>(
     domain: &D,
     k: usize,

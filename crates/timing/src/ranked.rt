@@ -24,7 +24,7 @@ pub fn response_at<B: Domain>(bank: &B, k: usize, rows: &[Row], f: usize) -> Opt
     if rows.len() > 96 || !carries(k, rows.get(f)?.set) {
         return None;
     }
-    // Of a fixed size, since nothing here allocates.
+    // A place for every number that there may be.
     let table: [Place; 96] = array::from_fn(|i| rank_of(f, i));
     let trial = Trial {
         bank,

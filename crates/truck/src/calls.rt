@@ -7,6 +7,7 @@ use runs::call::{Answer, Call};
 use runs::replay::replay;
 use signals::signal::Signal;
 
+// In the words of this program.
 fn call_name(call: Call) -> &'static str {
     match call {
         Call::Enter(_) => "enter",

@@ -6,6 +6,9 @@ use plan::closed::order::Counted;
 use plan::fault::PlanFault;
 use shown::names::name_of;
 
+// A plan has no more.
+const MOST_FRAMES: u16 = 96;
+
 // How late frame n can be in each domain that carries it.
 fn print_responses<D: Domain>(rt: &HostRuntime, plan: &Closed<D>, n: usize) -> anyhow::Result<()> {
     for k in 0..MOST_DOMAINS {
@@ -17,13 +20,12 @@ fn print_responses<D: Domain>(rt: &HostRuntime, plan: &Closed<D>, n: usize) -> a
     Ok(println!(rt)?)
 }
 
-// The frame of that identifier.
+// The frame of that identifier, if there is one.
 fn print_place<D: Domain>(rt: &HostRuntime, plan: &Closed<D>, wanted: u16) -> anyhow::Result<()> {
-    for n in 0..plan.frame_count() {
-        if plan.identifier(n) == Ok(wanted) {
-            print!(rt; "{wanted:>10} {n:>5}")?;
-            print_responses(rt, plan, n)?;
-        }
+    let mut numbers = 0..plan.frame_count();
+    if let Some(n) = numbers.find(|n| plan.identifier(*n) == Ok(wanted)) {
+        print!(rt; "{wanted:>10} {n:>5}")?;
+        print_responses(rt, plan, n)?;
     }
     Ok(())
 }
@@ -38,10 +40,8 @@ fn print_order<D: Domain>(
         counted.frames, counted.examinations
     )?;
     println!(rt; "identifier frame  response times")?;
-    let mut identifier: u16 = 8;
-    for _ in 0..plan.frame_count() {
-        print_place(rt, plan, identifier)?;
-        identifier = identifier.saturating_add(8);
+    for place in 1..=MOST_FRAMES {
+        print_place(rt, plan, 8 * place)?;
     }
     Ok(())
 }

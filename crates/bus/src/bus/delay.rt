@@ -8,7 +8,6 @@ use crate::bus::Bus;
 use kinds::view::View;
 
 impl Bus {
-    // That the view is of a frame on this bus (`own`) is a fact about both, so no type of one of them holds it.
     // With the blocking b, how long instance q of a busy period waits: every one of them has an end to its waiting.
     // It does not start before the time known, so the search begins there.
     pub(crate) fn delay_of(&self, view: &View<'_>, b: u64, q: u64, known: u64) -> u64

@@ -42,7 +42,7 @@ impl Kind for Bus {
     ghost kept = { bus_kept };
 
     fn price(&self, payload: u8) -> u64 {
-        let bits = 34 * self.arbitration + (28 + 10 * payload as u64) * self.data;
+        let bits = 34 * self.arbitration + (28 + 10 * u64::from(payload)) * self.data;
         if payload > 16 {
             bits + 5 * self.data
         } else {

@@ -35,7 +35,7 @@ impl Kind for Gateway {
     ghost kept = { gateway_kept };
 
     fn price(&self, payload: u8) -> u64 {
-        self.fixed + self.byte * payload as u64
+        self.fixed + self.byte * u64::from(payload)
     }
 
     // A smallest solution, or none up to the horizon: frames below it do not matter.

@@ -109,6 +109,7 @@ fn gather_all(entries: &[Entry], n: usize) -> ArrayVec<Row, MAX_FRAMES>
     ensures { result.items ≡ rows_of entries.now n }
 {
     let mut rows = ArrayVec::new();
+    // By the number of the frame, of which there is no list to go over.
     for k in 0..n {
         rows.push(gather(entries, k));
     }

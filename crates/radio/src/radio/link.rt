@@ -36,7 +36,7 @@ impl Kind for Radio {
     ghost kept = { radio_kept };
 
     fn price(&self, payload: u8) -> u64 {
-        self.byte * (payload as u64 + 6)
+        self.byte * (u64::from(payload) + 6)
     }
 
     fn time(&self, view: &View<'_>) -> Option<u64> {
