@@ -43,6 +43,7 @@ pub(crate) fn examine<B: Domain>(trial: &Trial<B>) -> Looked
 
 // Gives the `count` frames that the table has above their places, from the last to the first; none where at some place
 // no frame fits.
+// The count comes with the table, since whoever asks has it, and it is the measure of the loop.
 pub(crate) fn arrange<B: Domain>(
     frames: &Frames<B>,
     places: &mut [Place],

@@ -14,7 +14,7 @@ const FAIR: Signal = Signal {
     set: 1,
 };
 
-// The number with which the signal is refused by an empty draft over one domain, or 0.
+// The number with which the signal is refused by an empty draft over one domain, or 0, which is no refusal's.
 fn refusal(signal: Signal) -> Result<u8, Fail> {
     let mut draft = Draft::new(Gateway::new(20_000, 100)?);
     let refused = draft.enter(signal).err();
