@@ -8,7 +8,7 @@ use Rattle.shelf.specs.Picks.Perm.{done, next}
 use Rattle.timing.specs.Laws.{Laws}
 use Rattle.shelf.specs.Numbers.{without}
 use Rattle.shelf.specs.Apart.{Apart}
-use Rattle.shelf.proofs.Options.{some_none}
+use Rattle.std.proofs.lemmas.Option.{none-some}
 use Rattle.shelf.proofs.Numbering.{pick_is, apart_kept}
 use Rattle.shelf.proofs.Perms.{pick_length}
 use Rattle.ordering.specs.Orders.{found, examined, at_place, greedy, examinations}
@@ -21,7 +21,7 @@ found_not : (p : ℕ → Bool) (y : ℕ) (ys : List ℕ) → p y ≡ false → f
 found_not p y ys h = simp h
 
 pub found_some : (p : ℕ → Bool) (xs : List ℕ) (x : ℕ) → found p xs ≡ Some x → (r : List ℕ) × Pick x xs r × (p x ≡ true)
-found_some p [] x e = some_none x (sym e)
+found_some p [] x e = absurd (none-some x e)
 found_some p (y ∷ ys) x e = go (p y) refl (found_some p ys x)
   where
     go : (b : Bool) → p y ≡ b → (found p ys ≡ Some x → (r : List ℕ) × Pick x ys r × (p x ≡ true)) → (r : List ℕ) × Pick x (y ∷ ys) r × (p x ≡ true)
@@ -32,12 +32,12 @@ pub found_none : (p : ℕ → Bool) {x : ℕ} {xs r : List ℕ} → Pick x xs r 
 found_none p {x} (here {y = y} {r = r} e) h = go (p y) refl
   where
     go : (b : Bool) → p y ≡ b → p x ≡ false
-    go true k = some_none y (sym (found_yes p y r k) ∙ h)
+    go true k = absurd (none-some y (sym h ∙ found_yes p y r k))
     go false k = ap p e ∙ k
 found_none p {x} (there {y = y} {xs = xs} q) h = go (p y) refl (found_none p q)
   where
     go : (b : Bool) → p y ≡ b → (found p xs ≡ None → p x ≡ false) → p x ≡ false
-    go true k ih = some_none y (sym (found_yes p y xs k) ∙ h)
+    go true k ih = absurd (none-some y (sym h ∙ found_yes p y xs k))
     go false k ih = ih (sym (found_not p y xs k) ∙ h)
 
 -- what the greedy choice owes: an order over ls, or that there is none

@@ -15,7 +15,6 @@ use Rattle.plan.specs.declared.fault.PlanFault.{PlanFault}
 use Rattle.plan.specs.declared.fault.PlanFault.TheVariants.{NameTaken, SignalsFull, FramesFull, NameUnknown}
 use Rattle.plan.specs.Drafts.{chosen, unless, entered}
 use Rattle.plan.specs.Questions.{Questions, first_no, figure_questions, place_questions, enter_questions, name_questions, Asked}
-use Rattle.shelf.proofs.Options.{is_none}
 
 -- what was found, where a name that is not found is a fault
 pub found_ok : {X : Type 0} (o : Option X) (f : PlanFault) (x : X) → ok_or o f ≡ Ok x → o ≡ Some x
@@ -69,7 +68,7 @@ module _ (domains : ℕ) (cost : ℕ → ℕ → ℕ) (p : Packing) (s : Signal)
       pub all_asked : Sound p → LawfulSignal s → length p.signals < 256 → (o : Option Choice) → choice cost p s ≡ o → Asked domains cost p s (ok_or o FramesFull)
       all_asked h l few None e = by_choice None few e
       all_asked h l few (Some c) e =
-          (by_choice (Some c) few e, e, choice_placeable cost p s c h l few (not_found s.name 0 p.signals (is_none _ free)) e)
+          (by_choice (Some c) few e, e, choice_placeable cost p s c h l few (not_found s.name 0 p.signals (grind arith)) e)
 
   -- what enter does
   pub enter_refused : (f : PlanFault) → first_no (enter_questions domains cost p s) ≡ Some f → entered domains cost p s ≡ p

@@ -10,7 +10,7 @@ use Rattle.signals.specs.Names.{place_of, names}
 use Rattle.signals.specs.Riders.{any_in}
 use Rattle.signals.proofs.Finding.{found_within}
 use Rattle.packing.specs.Packings.{Packing, packed, placed, lower, closed_up, taken_out}
-use Rattle.shelf.proofs.Options.{some_same, some_none}
+use Rattle.std.proofs.lemmas.Option.{none-some, same_Some}
 
 abbrev pub signals_of : List Entry → List Signal
 signals_of es = map (λ e. e.signal) es
@@ -27,7 +27,7 @@ others_all x (e ∷ es) h =
 
 -- the one found is the only one of its name
 removed_others : (x j i : ℕ) (es : List Entry) → Apart (names es) → place_of x j es ≡ Some i → (n : ℕ) → j + n ≡ i → signals_of (remove es n) ≡ others x (signals_of es)
-removed_others x j i [] a h n k = some_none i (sym h)
+removed_others x j i [] a h n k = absurd (none-some i h)
 removed_others x j i (e ∷ es) a h n k = go (eqb e.signal.name x) refl h n k (removed_others x (j + 1) i es a.1)
   where
     go : (b : Bool) → eqb e.signal.name x ≡ b → cond b (Some j) (place_of x (j + 1) es) ≡ Some i → (n : ℕ) → j + n ≡ i → (place_of x (j + 1) es ≡ Some i → (n : ℕ) → j + 1 + n ≡ i → signals_of (remove es n) ≡ others x (signals_of es))
@@ -36,7 +36,7 @@ removed_others x j i (e ∷ es) a h n k = go (eqb e.signal.name x) refl h n k (r
         let same : e.signal.name ≡ x = eqb-true _ _ t in
         let rest = others_all x es (subst (λ y. AllByRecursion (λ z. z ≡ y → ⊥) (names es)) same a.0) in
         sym (ap (λ b. cond (not b) (e.signal ∷ others x (signals_of es)) (others x (signals_of es))) t ∙ rest)
-    go true t q (suc n) k ih = absurd (let z = some_same j i q in let no : ⊥ = omega arith in no)
+    go true t q (suc n) k ih = absurd (let z = same_Some j i q in let no : ⊥ = omega arith in no)
     go false t q zero k ih = absurd (let w = found_within x (j + 1) i es q in let no : ⊥ = omega (arith, w.0) in no)
     go false t q (suc n) k ih =
         ap (λ l. e.signal ∷ l) (ih q n (omega arith)) ∙ sym (ap (λ b. cond (not b) (e.signal ∷ others x (signals_of es)) (others x (signals_of es))) t)

@@ -41,7 +41,6 @@ use Rattle.runs.specs.Replies.{Reply, of_change, of_order}
 use Rattle.runs.specs.Replies.Reply.{not_allowed}
 use Rattle.runs.proofs.Living.{signals_of, others, taken_others, placed_signals}
 use Rattle.runs.proofs.Riding as R
-use Rattle.shelf.proofs.Options.{is_none}
 
 -- what holds of a book, with the signals that live
 pub record Good (m : Bank) (p : Packing) (s : Stands) (ss : List Signal) : Type 0 where
@@ -76,7 +75,7 @@ module _ (m : Bank) (laws : Laws (in_time m)) (at_most : m.domains ≤ 4) (p : P
   may_take : (s : Signal) → Sound p → AllYes (enter_questions m.domains m.cost p s) → (c : Choice) → choice m.cost p s ≡ Some c → Placeable p s c.frame
   unfolding enter_questions
   may_take s h y c q =
-      let free = not_found s.name 0 p.signals (is_none (place_of s.name 0 p.signals) (not-true _ y.1.1.1.1.1.0)) in
+      let free = not_found s.name 0 p.signals (let no = not-true _ y.1.1.1.1.1.0 in grind arith) in
       choice_placeable m.cost p s c h (lawful s y) (ltb-true _ _ y.1.1.1.1.1.1.0) free q
 
   enter_chosen : (s : Signal) → Good m p nothing ss → AllYes (enter_questions m.domains m.cost p s) → (o : Option Choice) → choice m.cost p s ≡ o → Good m (chosen p s o) nothing (ss ++ (s ∷ []))

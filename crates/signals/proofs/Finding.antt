@@ -4,12 +4,12 @@ use Rattle.std.specs.List.{AllByRecursion}
 use Rattle.std.proofs.lemmas.Bool.{cond-true, cond-false, eq-eqb, ne_eqb, eqb-false, cases_Bool}
 use Rattle.signals.specs.declared.signal.Entry.{Entry}
 use Rattle.signals.specs.Names.{place_of, names}
-use Rattle.shelf.proofs.Options.{some_same, some_none}
+use Rattle.std.proofs.lemmas.Option.{none-some, same_Some}
 
 pub found_within : (x i j : ℕ) (es : List Entry) → place_of x i es ≡ Some j → (i ≤ j) × (j < i + length es)
-found_within x i j [] e = some_none j (sym e)
+found_within x i j [] e = absurd (none-some j e)
 found_within x i j (y ∷ es) e = ⊎_elim {C = (i ≤ j) × (j < i + length (y ∷ es))}
-    (λ t. let q : i ≡ j = some_same _ _ (sym (cond-true _ _ _ t) ∙ e) in (omega arith, omega arith))
+    (λ t. let q : i ≡ j = same_Some _ _ (sym (cond-true _ _ _ t) ∙ e) in (omega arith, omega arith))
     (λ t. let p = found_within x (i + 1) j es (sym (cond-false _ _ _ t) ∙ e) in (omega arith, omega arith))
     (cases_Bool (eqb y.signal.name x))
 
@@ -17,7 +17,7 @@ found_within x i j (y ∷ es) e = ⊎_elim {C = (i ≤ j) × (j < i + length (y 
 pub not_found : (x i : ℕ) (es : List Entry) → place_of x i es ≡ None → AllByRecursion (λ y. y ≡ x → ⊥) (names es)
 not_found x i [] h = tt
 not_found x i (e ∷ es) h = ⊎_elim {C = AllByRecursion (λ y. y ≡ x → ⊥) (names (e ∷ es))}
-    (λ t. some_none i (sym (cond-true _ _ _ t) ∙ h))
+    (λ t. absurd (none-some i (sym h ∙ cond-true _ _ _ t)))
     (λ t. (eqb-false _ _ t, not_found x (i + 1) es (sym (cond-false _ _ _ t) ∙ h)))
     (cases_Bool (eqb e.signal.name x))
 
