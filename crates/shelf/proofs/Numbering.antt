@@ -57,9 +57,6 @@ map_numbers f d i (x ∷ xs) h =
 
 -- a loop over the table
 module _ {P : Type 0} (is : P → Bool) (ps : List P) (i : ℕ) (d : P) (l : i < length ps) where
-  pub chosen_skip : is (get_or ps i d) ≡ false → chosen is i (drop i ps) ≡ chosen is (i + 1) (drop (i + 1) ps)
-  chosen_skip e = at_drop_more (chosen is i) ps i d l ∙ simp e
-
   pub chosen_take : is (get_or ps i d) ≡ true → chosen is i (drop i ps) ≡ i ∷ chosen is (i + 1) (drop (i + 1) ps)
   chosen_take e = at_drop_more (chosen is i) ps i d l ∙ simp e
 
