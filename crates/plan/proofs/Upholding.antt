@@ -3,7 +3,7 @@ use Rattle.std.proofs.Common.{◌≡◌, ℕ, ◌+◌, ◌<◌, ◌≤◌, true,
 use Rattle.std.specs.List.{AllByRecursion}
 use Rattle.std.proofs.lemmas.List.FromFn.{get_or-map-range_with_len}
 use Rattle.std.proofs.ByRecursion.{All-weaker}
-use Rattle.std.proofs.lemmas.List.{length-map}
+use Rattle.std.proofs.lemmas.List.{length-map, map-append}
 use Rattle.std.proofs.lemmas.Bool.{cond-true, cond-false, lt-ltb, eq-eqb, ne_eqb}
 use Rattle.frames.specs.declared.row.Row.{Row}
 use Rattle.timing.specs.Carried.{carried}
@@ -42,10 +42,6 @@ all_split : {X : Type 0} (P : X → Type 0) (us : List X) (n : X) (ls : List X) 
 all_split P [] n ls h = (tt, h.0, h.1)
 all_split P (u ∷ us) n ls h = let k = all_split P us n ls h.1 in ((h.0, k.0), k.1, k.2)
 
-pub map_split : {X Y : Type 0} (f : X → Y) (us : List X) (n : X) (ls : List X) → map f (us ++ (n ∷ ls)) ≡ map f us ++ (f n ∷ map f ls)
-map_split f [] n ls = refl
-map_split f (u ∷ us) n ls = ap (λ l. f u ∷ l) (map_split f us n ls)
-
 module _ (p : Packing) where
   -- a frame that there is
   pub row_there : (n : ℕ) → n < p.frames → row_at (rows p) n ≡ row p n
@@ -71,11 +67,11 @@ module _ (p : Packing) where
         ap (unless_refused (identifier_at (place_in n o) ∷ [])) (cond-true _ _ _ (lt-ltb _ _ each_below.1)) ∙ ap (λ q. gives (identifier_at q ∷ [])) at_place
 
     pub split_rows : rows_at p o ≡ rows_at p us ++ (row_at (rows p) n ∷ rows_at p ls)
-    split_rows = ap (rows_at p) split ∙ map_split (row_at (rows p)) us n ls
+    split_rows = ap (rows_at p) split ∙ map-append (row_at (rows p)) us (n ∷ ls)
 
     lined : map (row p) o ≡ rows_at p us ++ (row p n ∷ rows_at p ls)
     lined =
-        ap (map (row p)) split ∙ map_split (row p) us n ls ∙ ap₂ (λ a b. a ++ (row p n ∷ b)) (rows_same us each_below.0) (rows_same ls each_below.2)
+        ap (map (row p)) split ∙ map-append (row p) us (n ∷ ls) ∙ ap₂ (λ a b. a ++ (row p n ∷ b)) (rows_same us each_below.0) (rows_same ls each_below.2)
 
     long : length (rows_at p us ++ (row p n ∷ rows_at p ls)) ≤ 96
     long = omega (arith, ap length lined, length-map o (row p), perm_length once, length_numbers 0 (rows p), rows_long p)
