@@ -1,10 +1,11 @@
 -- What order leaves standing is right. Assumes nothing.
-use Rattle.std.proofs.Common.{◌≡◌, ℕ, ◌+◌, ◌<◌, ◌≤◌, true, not, List, [], ◌∷◌, ◌++◌, map, length, Some, None, Option, sym, refl, ap, ◌∙◌, subst, ap₂, arith}
+use Rattle.std.proofs.Common.{◌≡◌, ℕ, ◌+◌, ◌<◌, ◌≤◌, true, List, [], ◌∷◌, ◌++◌, map, length, Some, None, Option, sym, refl, ap, ◌∙◌, subst, ap₂, arith}
+use Rattle.std.proofs.lemmas.Bool.Decides.{nat_tests}
 use Rattle.std.specs.List.{AllByRecursion}
 use Rattle.std.proofs.lemmas.List.FromFn.{get_or-map-range_with_len}
 use Rattle.std.proofs.ByRecursion.{All-weaker}
 use Rattle.std.proofs.lemmas.List.{length-map, map-append}
-use Rattle.std.proofs.lemmas.Bool.{cond-true, cond-false, lt-ltb, eq-eqb, ne_eqb}
+use Rattle.std.proofs.lemmas.Bool.{cond-true, lt-ltb}
 use Rattle.frames.specs.declared.row.Row.{Row}
 use Rattle.timing.specs.Carried.{carried}
 use Rattle.domains.specs.Asked.{no_row}
@@ -33,10 +34,10 @@ use Rattle.plan.proofs.Readings.{rows_long}
 use Rattle.plan.proofs.Wording.{to_meets, to_order, from_order, greedy_picked, shrink_filtered}
 
 place_split : (n : ℕ) (us ls : List ℕ) → Apart (us ++ (n ∷ ls)) → place_in n (us ++ (n ∷ ls)) ≡ length us
-place_split n [] ls a = cond-false _ _ _ (ap not (eq-eqb n n refl))
+place_split n [] ls a = grind (arith, nat_tests)
 place_split n (u ∷ us) ls a =
     let ne : u ≡ n → ⊥ = λ e. all_pick (λ z. z ≡ u → ⊥) a.0 (pick_middle n us ls) (sym e) in
-    cond-true _ _ _ (ap not (ne_eqb u n ne)) ∙ omega (arith, place_split n us ls a.1)
+    grind (arith, nat_tests, place_split n us ls a.1)
 
 all_split : {X : Type 0} (P : X → Type 0) (us : List X) (n : X) (ls : List X) → AllByRecursion P (us ++ (n ∷ ls)) → AllByRecursion P us × P n × AllByRecursion P ls
 all_split P [] n ls h = (tt, h.0, h.1)

@@ -1,11 +1,11 @@
 -- The signals of a frame: one more, one out, none. Assumes nothing.
-use Rattle.std.proofs.Common.{◌≡◌, ℕ, suc, ◌+◌, ◌<◌, true, false, cond, eqb, List, [], ◌∷◌, ◌++◌, map, length, get_or, take, drop, filter, sym, refl, ap, ◌∙◌, subst, ⊎_elim, drop-cons, arith}
+use Rattle.std.proofs.Common.{◌≡◌, ℕ, suc, ◌+◌, ◌<◌, true, false, eqb, List, [], ◌∷◌, ◌++◌, map, length, get_or, take, drop, filter, sym, refl, ap, ◌∙◌, subst, ⊎_elim, drop-cons, arith}
 use Rattle.std.proofs.lemmas.Bool.Decides.{nat_tests}
 use Rattle.std.specs.List.{remove, AllByRecursion}
 use Rattle.std.proofs.lemmas.List.Elements.{filter-append}
 use Rattle.std.proofs.ByRecursion.{All-weaker}
 use Rattle.std.proofs.lemmas.List.{map-append, append-nil, take-append-drop, take_more}
-use Rattle.std.proofs.lemmas.Bool.{eq-eqb, ne_eqb, or_left, or_right, cases_eq}
+use Rattle.std.proofs.lemmas.Bool.{eq-eqb, or_left, or_right, cases_eq}
 use Rattle.signals.specs.declared.signal.Signal.{Signal}
 use Rattle.signals.specs.declared.signal.Entry.{Entry}
 use Rattle.signals.specs.Names.{no_entry}
@@ -23,13 +23,11 @@ module _ (n : ℕ) where
   -- an entry in front
   pub rider : (e : Entry) (es : List Entry) → e.frame ≡ n → riders n (e ∷ es) ≡ e.signal ∷ riders n es
   unfolding riders
-  rider e es q =
-      ap (λ t. map (λ f. f.signal) (cond t (e ∷ filter (λ f. eqb f.frame n) es) (filter (λ f. eqb f.frame n) es))) (eq-eqb e.frame n q)
+  rider e es q = grind (arith, nat_tests)
 
   pub no_rider : (e : Entry) (es : List Entry) → (e.frame ≡ n → ⊥) → riders n (e ∷ es) ≡ riders n es
   unfolding riders
-  no_rider e es q =
-      ap (λ t. map (λ f. f.signal) (cond t (e ∷ filter (λ f. eqb f.frame n) es) (filter (λ f. eqb f.frame n) es))) (ne_eqb e.frame n q)
+  no_rider e es q = grind (arith, nat_tests)
 
   pub riders_nil : riders n [] ≡ []
   unfolding riders
