@@ -1,5 +1,5 @@
 -- One instance of a busy period after the other. Assumes nothing.
-use Rattle.std.proofs.Common.{◌≡◌, ℕ, ◌+◌, ◌-◌, ◌*◌, ◌<◌, ◌≤◌, max, ltb, List, Some, None, sym, refl, ap, ◌∙◌, subst, ⊎_elim, add-mul, add-one, arith}
+use Rattle.std.proofs.Common.{◌≡◌, ℕ, ◌+◌, ◌-◌, ◌*◌, ◌<◌, ◌≤◌, max, ltb, List, Some, None, sym, ap, ◌∙◌, subst, ⊎_elim, add-mul, add-one, arith}
 use Rattle.std.specs.List.{AllByRecursion}
 use Rattle.std.proofs.lemmas.Nat.{mul-le}
 use Rattle.std.proofs.lemmas.Bool.{cases_lt, cond-true, cond-false, lt-ltb, le-ltb}
@@ -21,9 +21,6 @@ pub record Instances (a : ℕ) (s : Stream) (us : List Stream) (b : ℕ) (q wors
   pub below : (v : ℕ) → v ≡ queue_load a s us b q v → known ≤ v
 
 module _ (a : ℕ) (s : Stream) (us : List Stream) (b : ℕ) where
-  pub instances_none : Instances a s us b 0 0 0
-  instances_none = record { worst_is = refl; rises = omega arith; below = λ v e. omega arith }
-
   module _ (fit : AllByRecursion Fit us) (q w : ℕ) (waits : delay a s us b q ≡ Some w) where
     waited : Waits a s us b q w
     waited = delay_smallest a s us b q w waits

@@ -58,8 +58,7 @@ module _ (s : Stream) (us : List Stream) (b : ℕ) (own : Fit s) (fit : AllByRec
 
   -- q instances do not fill a busy period that has more
   unfilled : (l q : ℕ) → q < ceil l s.period → q * s.period < l
-  unfilled l q h =
-      ⊎_elim {C = q * s.period < l} (λ k. k) (λ k. absurd (omega (arith, ceil_le s.period l q lasting k))) (cases_lt (q * s.period) l)
+  unfilled l q h = grind (arith, ceil_le s.period l q lasting)
 
   module _ (a : ℕ) (short : a ≤ s.cost) where
     -- each instance of a busy period has a queueing delay, and is done when the busy period ends
@@ -77,7 +76,7 @@ module _ (s : Stream) (us : List Stream) (b : ℕ) (own : Fit s) (fit : AllByRec
     -- and begins no earlier than it is released: the bus has been busy all along
     pub begins : (l q w : ℕ) → busy_period s us b ≡ Some l → q < ceil l s.period → delay a s us b q ≡ Some w → q * s.period ≤ w
     unfolding delay busy_period
-    begins l q w e m d = ⊎_elim {C = q * s.period ≤ w} (λ early. absurd (idle early)) (λ h. h) (cases_lt w (q * s.period))
+    begins l q w e m d = grind (arith, idle)
       where
         idle : w < q * s.period → ⊥
         idle early =
@@ -91,9 +90,7 @@ module _ (s : Stream) (us : List Stream) (b : ℕ) (own : Fit s) (fit : AllByRec
 
 -- ---- less to wait for, at any time, is no later
 or_zero_le : (o u : Option ℕ) (v : ℕ) → o ≡ Some v → NoLater o u → or_zero u ≤ or_zero o
-or_zero_le None u v e h = let z : ◌≡◌ {A = ℕ} 0 1 = cc in absurd (omega arith)
-or_zero_le (Some t) (Some u) v e h = h
-or_zero_le (Some t) None v e h = absurd h
+or_zero_le o u v e h = grind arith
 
 module _ (a : ℕ) (s : Stream) (us : List Stream) (b : ℕ) (us' : List Stream) (b' : ℕ) (own : Fit s) (a_pos : 1 ≤ a) (short : a ≤ s.cost) (fit : AllByRecursion Fit us) (fit' : AllByRecursion Fit us')
     (less : (w : ℕ) → 1 ≤ w → b' + demand us' w ≤ b + demand us w) where

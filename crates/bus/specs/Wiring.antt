@@ -1,9 +1,9 @@
 -- The duties of a CAN FD bus. Assumes nothing.
-use Rattle.std.specs.Prelude.{◌≡◌, ℕ, ◌+◌, ◌-◌, ◌*◌, ◌≤◌, max, Bool, true, false, cond, List, ◌∷◌, Option, nat_lt, refl}
+use Rattle.std.specs.Prelude.{◌≡◌, ℕ, ◌+◌, ◌-◌, ◌*◌, ◌≤◌, max, Bool, cond, List, ◌∷◌, Option, nat_lt, refl}
+use Rattle.std.proofs.lemmas.Bool.Decides.{nat_tests}
 use Rattle.std.proofs.Math.Path.{ap, ap₂, fun_ext}
 use Rattle.std.proofs.Common.{arith, le_refl, le_trans}
 use Rattle.std.proofs.lemmas.Nat.{mul-le}
-use Rattle.std.proofs.lemmas.Bool.{ltb-true, ltb-false}
 use Rattle.shelf.specs.Picks.{Perm}
 use Rattle.shelf.specs.Picks.Pick.{here}
 use Rattle.shelf.specs.Picks.Perm.{next}
@@ -20,8 +20,7 @@ use Rattle.bus.specs.Bussing.{response_no_later, response_bounded}
 
 -- ---- costs
 extra_le : (b : Bool) (x : ℕ) → cond b x 0 ≤ x
-extra_le true x = le_refl x
-extra_le false x = omega arith
+extra_le b x = grind arith
 
 -- a frame takes no less than an arbitration bit
 pub dear : (d : Bus) (p : ℕ) → d.arbitration ≤ bus_price d p
@@ -34,13 +33,8 @@ price_lawful d p h =
 price_grows : (d : Bus) (p q : ℕ) → p ≤ q → bus_price d p ≤ bus_price d q
 price_grows d p q h =
     let m : (28 + 10 * p) * d.«data» ≤ (28 + 10 * q) * d.«data» = mul-le (28 + 10 * p) d.«data» (28 + 10 * q) d.«data» (omega arith) (le_refl d.«data») in
-    let e : cond (nat_lt 16 p) (5 * d.«data») 0 ≤ cond (nat_lt 16 q) (5 * d.«data») 0 = grows (nat_lt 16 p) (nat_lt 16 q) refl refl in
+    let e : cond (nat_lt 16 p) (5 * d.«data») 0 ≤ cond (nat_lt 16 q) (5 * d.«data») 0 = grind (arith, nat_tests) in
     omega (arith, m, e)
-  where
-    grows : (b c : Bool) → nat_lt 16 p ≡ b → nat_lt 16 q ≡ c → cond b (5 * d.«data») 0 ≤ cond c (5 * d.«data») 0
-    grows true true s t = le_refl (5 * d.«data»)
-    grows true false s t = absurd (omega (arith, ltb-true 16 p s, ltb-false 16 q t))
-    grows false c s t = omega arith
 
 -- ---- the order of the frames
 module _ (a : ℕ) (s : Stream) where

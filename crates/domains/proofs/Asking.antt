@@ -1,6 +1,7 @@
 -- Whole questions: the general form of the duties, derived once from the single steps. Assumes nothing.
-use Rattle.std.proofs.Common.{◌≡◌, ℕ, suc, ◌<◌, ◌≤◌, Bool, true, false, cond, ◌&&◌, ltb, leb, List, [], ◌∷◌, ◌++◌, length, get_or, None, Option, sym, refl, ap, ◌∙◌, subst, subst₂}
-use Rattle.std.proofs.lemmas.Bool.{cond-true, cond-false, cond_both, and_from, and_left, and_right, le-leb, lt-leb, lt-ltb, le-ltb}
+use Rattle.std.proofs.Common.{◌≡◌, ℕ, suc, ◌<◌, ◌≤◌, Bool, true, false, cond, ◌&&◌, ltb, leb, List, [], ◌∷◌, ◌++◌, length, get_or, None, Option, sym, ap, ◌∙◌, subst, subst₂, arith}
+use Rattle.std.proofs.lemmas.Bool.Decides.{nat_tests}
+use Rattle.std.proofs.lemmas.Bool.{cond-true, cond-false, and_from, le-leb, lt-ltb}
 use Rattle.frames.specs.declared.row.Row.{Row}
 use Rattle.frames.specs.Limits.{lawful}
 use Rattle.shelf.specs.Folds.{every}
@@ -82,9 +83,7 @@ module _ {D : Type 0} {count : D → ℕ} {cost : D → ℕ → ℕ → ℕ} {re
 pub asked_mute : (response : Row → List Row → List Row → Option ℕ) (rows : List Row) (places : List Place) (f : ℕ) → ((r : Row) (us ls : List Row) → response r us ls ≡ None) → None ≡ asked response rows places f
 unfolding asked reply
 asked_mute response rows places f h =
-    cond_both (leb (length rows) 96 && ltb f (length rows)) _ None (λ (o : Option ℕ). None ≡ o)
-    (λ e. cond_both _ (response (get_or rows f no_row) (standing Above rows places f) (standing Below rows places f)) None (λ (o : Option ℕ). None ≡ o) (λ e. sym (h _ _ _)) (λ e. refl))
-    (λ e. refl)
+    let none = h (get_or rows f no_row) (standing Above rows places f) (standing Below rows places f) in grind arith
 
 -- when a question has no answer, and which answer it has
 module _ (response : Row → List Row → List Row → Option ℕ) (rows : List Row) (places : List Place) (f : ℕ) where
@@ -93,10 +92,10 @@ module _ (response : Row → List Row → List Row → Option ℕ) (rows : List 
   unasked e = sym (cond-false _ _ _ e)
 
   pub asked_long : 96 < length rows → None ≡ asked response rows places f
-  asked_long h = unasked (and_left _ _ (lt-leb _ _ h))
+  asked_long h = unasked (grind (arith, nat_tests))
 
   pub asked_outside : length rows ≤ f → None ≡ asked response rows places f
-  asked_outside h = unasked (and_right _ _ (le-ltb _ _ h))
+  asked_outside h = unasked (grind (arith, nat_tests))
 
   abbrev own : Bool
   own = lawful (get_or rows f no_row)
@@ -109,20 +108,18 @@ module _ (response : Row → List Row → List Row → Option ℕ) (rows : List 
 
   unlawful : (own && (above && below)) ≡ false → None ≡ asked response rows places f
   unfolding asked reply
-  unlawful e =
-      cond_both (leb (length rows) 96 && ltb f (length rows)) _ None (λ (o : Option ℕ). None ≡ o) (λ _. sym (cond-false _ _ _ e)) (λ _. refl)
+  unlawful e = grind arith
 
   pub asked_unlawful : own ≡ false → None ≡ asked response rows places f
-  asked_unlawful e = unlawful (and_left own (above && below) e)
+  asked_unlawful e = unlawful (grind arith)
 
   pub asked_unlawful_above : above ≡ false → None ≡ asked response rows places f
-  asked_unlawful_above e = unlawful (and_right own (above && below) (and_left above below e))
+  asked_unlawful_above e = unlawful (grind arith)
 
   pub asked_unlawful_below : below ≡ false → None ≡ asked response rows places f
-  asked_unlawful_below e = unlawful (and_right own (above && below) (and_right above below e))
+  asked_unlawful_below e = unlawful (grind arith)
 
   pub asked_is : length rows ≤ 96 → f < length rows → own ≡ true → above ≡ true → below ≡ true
       → response (get_or rows f no_row) (standing Above rows places f) (standing Below rows places f) ≡ asked response rows places f
   unfolding asked reply
-  asked_is few in_List a b c =
-      sym (cond-true _ _ _ (and_from _ _ (le-leb _ _ few) (lt-ltb _ _ in_List)) ∙ cond-true _ _ _ (and_from _ _ a (and_from _ _ b c)))
+  asked_is few in_List a b c = grind (arith, nat_tests)

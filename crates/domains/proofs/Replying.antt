@@ -1,5 +1,5 @@
 -- The duties for all rows: where a row is outside the limits there is no answer. Assumes nothing.
-use Rattle.std.proofs.Common.{◌≡◌, ℕ, true, cond, ◌&&◌, List, ◌∷◌, None, Decides, Option, ap₂}
+use Rattle.std.proofs.Common.{◌≡◌, ℕ, true, cond, ◌&&◌, List, ◌∷◌, None, Decides, Option, ap₂, arith}
 use Rattle.std.specs.List.{AllByRecursion}
 use Rattle.std.proofs.lemmas.Bool.{and_parts, and_from, cond_both}
 use Rattle.frames.specs.declared.row.Row.{Row}
@@ -20,14 +20,10 @@ all_lawful = decides_every lawful Lawful decides_lawful
 
 -- what the test of the rows tells
 rows_ok : (f : Row) (us ls : List Row) → (lawful f && (every lawful us && every lawful ls)) ≡ true → (lawful f ≡ true) × (every lawful us ≡ true) × (every lawful ls ≡ true)
-rows_ok f us ls e =
-    let p = and_parts (lawful f) (every lawful us && every lawful ls) e in
-    let q = and_parts (every lawful us) (every lawful ls) p.1 in
-    (p.0, q.0, q.1)
+rows_ok f us ls e = grind arith
 
 ok_rows : (f : Row) (us ls : List Row) → lawful f ≡ true → every lawful us ≡ true → every lawful ls ≡ true → (lawful f && (every lawful us && every lawful ls)) ≡ true
-ok_rows f us ls a b c =
-    and_from (lawful f) (every lawful us && every lawful ls) a (and_from (every lawful us) (every lawful ls) b c)
+ok_rows f us ls a b c = grind arith
 
 module _ {D : Type 0} {count : D → ℕ} {cost : D → ℕ → ℕ → ℕ} {response : D → ℕ → Row → List Row → List Row → Option ℕ} (duties : Duties count cost response) (d : D) (k : ℕ) where
   bound : (f : Row) (us ls : List Row) → AtMost horizon (reply (response d k) f us ls)

@@ -1,7 +1,7 @@
 -- The duties of two domains side by side, from those of each. Assumes nothing.
-use Rattle.std.specs.Prelude.{◌≡◌, ℕ, ◌-◌, ◌<◌, ◌≤◌, Bool, true, false, cond, List, ◌∷◌, None, Option, nat_lt, refl}
+use Rattle.std.specs.Prelude.{◌≡◌, ℕ, ◌-◌, ◌<◌, ◌≤◌, List, ◌∷◌, None, Option, refl}
+use Rattle.std.proofs.lemmas.Bool.Decides.{nat_tests}
 use Rattle.std.proofs.Common.{arith, le_refl}
-use Rattle.std.proofs.lemmas.Bool.{cond_both, ltb-true, ltb-false}
 use Rattle.frames.specs.declared.row.Row.{Row}
 use Rattle.shelf.specs.Times.{NoLater, AtMost}
 use Rattle.streams.specs.Demands.{horizon, LawfulCost}
@@ -10,17 +10,11 @@ use Rattle.domains.specs.Pairs.{pair_count, by_number}
 
 -- what holds of each part holds of the pair
 both : {X : Type 0} (P : X → Type 0) (n k : ℕ) (first second : ℕ → X) (outside : X) → (k < 4 → k < n → P (first k)) → (k < 4 → n ≤ k → P (second (k - n))) → (4 ≤ k → P outside) → P (by_number n k first second outside)
-both P n k first second outside f s o =
-    cond_both (nat_lt k 4) _ outside P (λ t. cond_both (nat_lt k n) (first k) (second (k - n)) P (λ e. f (ltb-true k 4 t) (ltb-true k n e)) (λ e. s (ltb-true k 4 t) (ltb-false k n e))) (λ e. o (ltb-false k 4 e))
+both P n k first second outside f s o = grind (arith, nat_tests)
 
 -- and what holds between two questions to each part
 both₂ : {X : Type 0} (R : X → X → Type 0) (n k : ℕ) (x y x' y' : ℕ → X) (z : X) → (k < n → R (x k) (x' k)) → (n ≤ k → R (y (k - n)) (y' (k - n))) → R z z → R (by_number n k x y z) (by_number n k x' y' z)
-both₂ R n k x y x' y' z f s o = by (nat_lt k 4) (nat_lt k n) refl
-  where
-    by : (b c : Bool) → nat_lt k n ≡ c → R (cond b (cond c (x k) (y (k - n))) z) (cond b (cond c (x' k) (y' (k - n))) z)
-    by true true e = f (ltb-true k n e)
-    by true false e = s (ltb-false k n e)
-    by false c e = o
+both₂ R n k x y x' y' z f s o = grind (arith, nat_tests)
 
 module _ {P A B : Type 0} (first : P → A) (second : P → B)
     {na : A → ℕ} {ca : A → ℕ → ℕ → ℕ} {ra : A → ℕ → Row → List Row → List Row → Option ℕ}

@@ -1,8 +1,8 @@
 -- The payload of a fill: the first of the rising sizes that is not below it is the smallest that fits. Assumes nothing.
-use Rattle.std.proofs.Common.{◌≡◌, ℕ, ◌+◌, ◌<◌, ◌≤◌, Bool, true, false, cond, ◌&&◌, eqb, leb, List, [], ◌∷◌, length, get_or, drop, is_some, Some, None, Decides, Option, sym, refl, ap, ◌∙◌, subst, subst₂, ⊎_elim, le_trans, le_refl, arith}
+use Rattle.std.proofs.Common.{◌≡◌, ℕ, ◌<◌, ◌≤◌, Bool, true, false, cond, ◌&&◌, eqb, leb, List, [], ◌∷◌, is_some, Some, None, Decides, Option, refl, ap, subst₂, le_refl, arith, rules}
 use Rattle.std.specs.List.{AllByRecursion, find}
-use Rattle.std.proofs.lemmas.List.{at_drop_more}
-use Rattle.std.proofs.lemmas.Bool.{cond-true, cond-false, or_cases, or_left, or_right, eqb-true, eq-eqb, le-leb, lt-leb, leb-true, leb-false, and_parts, and_from, cases_lt}
+use Rattle.std.proofs.lemmas.Bool.{or_left, or_right, eq-eqb, le-leb, leb-true, leb-false}
+use Rattle.std.proofs.lemmas.Bool.Decides.{nat_tests, Decides-and}
 use Rattle.shelf.specs.Smallest.{Smallest, smallest}
 use Rattle.shelf.proofs.Solutions.{smallest_is, smallest_unique}
 use Rattle.frames.specs.Payloads.{sizes, one_of, Fits, or_full, payload}
@@ -13,9 +13,8 @@ Rising [] = Unit {0}
 Rising (x ∷ xs) = AllByRecursion (λ y. x ≤ y) xs × Rising xs
 
 all_one_of : (P : ℕ → Type 0) (xs : List ℕ) → AllByRecursion P xs → (s : ℕ) → one_of s xs ≡ true → P s
-all_one_of P [] a s e = let z : ◌≡◌ {A = ℕ} 0 1 = cc in absurd (omega arith)
-all_one_of P (x ∷ xs) a s e =
-    ⊎_elim {C = P s} (λ h. subst P (sym (eqb-true s x h)) a.0) (λ h. all_one_of P xs a.1 s h) (or_cases (eqb s x) (one_of s xs) e)
+all_one_of P [] a s e = grind arith
+all_one_of P (x ∷ xs) a s e = grind (arith, nat_tests, all_one_of P xs a.1 s)
 
 -- of the sizes of a list
 abbrev FitsIn : List ℕ → ℕ → ℕ → Type 0
@@ -23,20 +22,18 @@ FitsIn xs n s = (one_of s xs ≡ true) × (n ≤ s)
 
 -- the first of a rising list that is not below n is the smallest
 first_is : (xs : List ℕ) (n : ℕ) → Rising xs → AllByRecursion (λ x. x ≤ 64) xs → Smallest (FitsIn xs n) 0 64 (find (λ x. leb n x) xs)
-first_is [] n r a = λ v l h p. let e = p.0 in let z : ◌≡◌ {A = ℕ} 0 1 = cc in absurd (omega arith)
+first_is [] n r a = λ v l h p. grind arith
 first_is (x ∷ xs) n r a = by (leb n x) refl (find (λ y. leb n y) xs) (first_is xs n r.1 a.1)
   where
     behind : x < n → (v : ℕ) → FitsIn (x ∷ xs) n v → FitsIn xs n v
-    behind h v p =
-        ⊎_elim {C = FitsIn xs n v} (λ e. let q = p.1 in absurd (omega (arith, eqb-true v x e))) (λ e. (e, p.1)) (or_cases (eqb v x) (one_of v xs) p.0)
+    behind h v p = grind (arith, nat_tests)
 
     rest : x < n → (o : Option ℕ) → Smallest (FitsIn xs n) 0 64 o → Smallest (FitsIn (x ∷ xs) n) 0 64 o
     rest h (Some w) s = (s.0, s.1, (or_right (eqb w x) (one_of w xs) s.2.0, s.2.1), λ v l m p. s.3 v l m (behind h v p))
     rest h None s = λ v l m p. s v l m (behind h v p)
 
     first : n ≤ x → (v : ℕ) → v < x → FitsIn (x ∷ xs) n v → ⊥
-    first h v l p =
-        ⊎_elim {C = ⊥} (λ e. omega (arith, eqb-true v x e)) (λ e. let q = all_one_of (λ y. x ≤ y) xs r.0 v e in omega arith) (or_cases (eqb v x) (one_of v xs) p.0)
+    first h v l p = grind (arith, nat_tests, all_one_of (λ y. x ≤ y) xs r.0 v)
 
     by : (b : Bool) → leb n x ≡ b → (o : Option ℕ) → Smallest (FitsIn xs n) 0 64 o → Smallest (FitsIn (x ∷ xs) n) 0 64 (cond b (Some x) o)
     by true e o s = let h = leb-true n x e in (omega arith, a.0, (or_left (eqb x x) (one_of x xs) (eq-eqb x x refl), h), λ v l m p. first h v m p)
@@ -45,13 +42,12 @@ first_is (x ∷ xs) n r a = by (leb n x) refl (find (λ y. leb n y) xs) (first_i
 pub find_fits : (n : ℕ) → Smallest (Fits n) 0 64 (find (λ s. leb n s) sizes)
 find_fits n =
     first_is sizes n
-    (omega arith, (omega arith, (omega arith, (omega arith, (omega arith, (omega arith, (omega arith, (omega arith, (omega arith, (omega arith, (omega arith, (omega arith, (omega arith, (omega arith, (omega arith, (omega arith, tt))))))))))))))))
+    (search rules)
     (omega arith)
 
 -- the payload by its definition
 fits_test : (n s : ℕ) → Decides (one_of s sizes && leb n s) (Fits n s)
-fits_test n s =
-    (λ e. let p = and_parts (one_of s sizes) (leb n s) e in (p.0, leb-true n s p.1), λ h. and_from (one_of s sizes) (leb n s) h.0 (le-leb n s h.1))
+fits_test n s = Decides-and (one_of s sizes) (leb n s) (λ e. e, λ e. e) (leb-true n s, le-leb n s)
 
 by_test : (n : ℕ) → Smallest (Fits n) 0 64 (smallest (λ s. one_of s sizes && leb n s) 0 64)
 by_test n = smallest_is (Fits n) (λ s. one_of s sizes && leb n s) (fits_test n) 0 64 (omega arith)
@@ -68,8 +64,7 @@ fits_some n h (Some w) s = refl
 fits_some n h None s = absurd (s 64 (omega arith) (le_refl 64) (refl, h))
 
 low_by : (n : ℕ) (o : Option ℕ) → Smallest (Fits n) 0 64 o → or_full o ≤ 64
-low_by n (Some w) s = s.1
-low_by n None s = le_refl 64
+low_by n o s = grind arith
 
 pub payload_le : (n : ℕ) → payload n ≤ 64
 unfolding payload
@@ -77,11 +72,7 @@ payload_le n = low_by n (smallest (λ s. one_of s sizes && leb n s) 0 64) (by_te
 
 -- a larger fill takes no smaller payload
 fits_mono : (n m : ℕ) → n ≤ m → (o u : Option ℕ) → Smallest (Fits n) 0 64 o → Smallest (Fits m) 0 64 u → or_full o ≤ or_full u
-fits_mono n m h (Some w) None a b = a.1
-fits_mono n m h None None a b = omega arith
-fits_mono n m h None (Some v) a b = absurd (a v (omega arith) b.1 (b.2.0, le_trans h b.2.1))
-fits_mono n m h (Some w) (Some v) a b =
-    ⊎_elim {C = w ≤ v} (λ l. absurd (a.3 v (omega arith) l (b.2.0, le_trans h b.2.1))) (λ l. l) (cases_lt v w)
+fits_mono n m h o u a b = grind arith
 
 pub payload_mono : (n m : ℕ) → n ≤ m → payload n ≤ payload m
 payload_mono n m h =

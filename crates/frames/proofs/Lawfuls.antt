@@ -1,6 +1,6 @@
 -- The limits of a frame, as a fact and as a test. Assumes nothing.
-use Rattle.std.proofs.Common.{◌≡◌, true, false, Ok, Err, Decides, subst, ⊎_elim, arith}
-use Rattle.std.proofs.lemmas.Bool.{cases_Bool}
+use Rattle.std.proofs.Common.{◌≡◌, true, false, Ok, Err, Decides, subst, arith}
+use Rattle.std.proofs.lemmas.Bool.{false_from_ne_true}
 use Rattle.std.proofs.lemmas.Bool.Decides.{nat_tests}
 use Rattle.frames.specs.declared.fault.RowFault.{RowFault}
 use Rattle.frames.specs.declared.fault.RowFault.TheVariants.{Fill, Period, Deadline, Set}
@@ -13,7 +13,7 @@ pub lawful_from : (r : Row) → Lawful r → lawful r ≡ true
 lawful_from r h = grind (arith, nat_tests)
 
 pub from_lawful : (r : Row) → lawful r ≡ true → Lawful r
-from_lawful r e = record { filled = (grind (arith, nat_tests), grind (arith, nat_tests)); paced = (grind (arith, nat_tests), grind (arith, nat_tests)); timely = (grind (arith, nat_tests), grind (arith, nat_tests)); carried = (grind (arith, nat_tests), grind (arith, nat_tests)) }
+from_lawful r e = record { filled = grind (arith, nat_tests); paced = grind (arith, nat_tests); timely = grind (arith, nat_tests); carried = grind (arith, nat_tests) }
 
 pub decides_lawful : (r : Row) → Decides (lawful r) (Lawful r)
 decides_lawful r = (from_lawful r, lawful_from r)
@@ -30,7 +30,7 @@ breaks_unlawful r Set b h = b.3 h.carried
 
 -- what the check of a row tells
 pub checked_err : (r : Row) (e : RowFault) → Checked r (Err e) → lawful r ≡ false
-checked_err r e b = ⊎_elim {C = lawful r ≡ false} (λ t. absurd (breaks_unlawful r e b (from_lawful r t))) (λ t. t) (cases_Bool (lawful r))
+checked_err r e b = false_from_ne_true (lawful r) (λ t. breaks_unlawful r e b (from_lawful r t))
 
 pub checked_ok : (r : Row) (f : Frame) → Checked r (Ok f) → lawful r ≡ true
 checked_ok r f h = subst (λ (x : Row). lawful x ≡ true) h (lawful_from (row_of f) (lawful_frame f))

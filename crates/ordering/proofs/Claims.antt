@@ -1,13 +1,13 @@
 -- The theorems on rows. Assumes nothing.
 use Rattle.std.proofs.Common.{◌≡◌, ℕ, ◌+◌, Bool, true, List, [], map, length, get_or, Some, None, Option, sym, ap, subst, arith}
-use Rattle.shelf.specs.Picks.{Perm, Part}
+use Rattle.shelf.specs.Picks.{Perm}
 use Rattle.timing.specs.Laws.{Laws}
 use Rattle.shelf.specs.Numbers.{numbers}
 use Rattle.timing.specs.Places.{by_number}
 use Rattle.shelf.proofs.Numbering.{chosen_apart, length_numbers, map_numbers}
 use Rattle.ordering.specs.Orders.{Meets, HasOrder, at_row, order_of, conflict_of, Judged, IsConflict}
 use Rattle.shelf.proofs.Perms.{perm_map, perm_trans, reversed}
-use Rattle.ordering.proofs.Audsley.{Ordered, has_order, from_order, ordered_part, meets_fits}
+use Rattle.ordering.proofs.Audsley.{Ordered, has_order, from_order, meets_fits}
 use Rattle.ordering.proofs.Greedy.{Right, greedy_right}
 use Rattle.ordering.proofs.Deletion.{conflict_right, shrink_part}
 use Rattle.ordering.proofs.Records.{laws_by_number, ordered_to, ordered_back, fits_to, map_onto}
@@ -43,7 +43,3 @@ module _ {F : Type 0} {t : F → List F → List F → Bool} (laws : Laws t) (ro
         none = λ o. h.0 (ordered_back t row (conflict_of t rows d) (from_order laws o));
         each = λ x r p. has_order laws (ordered_to t row r (h.1 x r p));
       }
-
-  -- sub-multisets
-  pub part_has_order : {xs ys : List F} → Part xs ys → HasOrder t xs → HasOrder t ys
-  part_has_order p o = has_order laws (ordered_part laws p (from_order laws o))

@@ -1,14 +1,12 @@
 -- The deletion filter in a table. Assumes nothing.
 use Rattle.std.proofs.Common.{◌≡◌, ℕ, zero, suc, ◌+◌, ◌-◌, ◌<◌, ◌≤◌, Bool, true, false, ◌≢◌, List, [], ◌∷◌, length, get_or, take, drop, set, replicate, sym, refl, ap, ◌∙◌, arith, length-set, length-take, get_or-set_other, get_or-set_same, drop-set-lt, set-set}
 use lib.Seq.{take-set-lt, set-get_or}
-use Rattle.std.proofs.lemmas.Bool.{false≢true}
-use Rattle.std.proofs.lemmas.List.{at_drop_all}
 use Rattle.shelf.specs.Numbers.{without, numbers, chosen}
 use Rattle.timing.specs.Places.{above, below, is_above, is_below}
 use Rattle.domains.specs.Asked.{no_row}
 use Rattle.frames.specs.declared.row.Row.{Row}
 use Rattle.domains.specs.declared.place.Place.{Place}
-use Rattle.domains.specs.declared.place.Place.TheVariants.{Above, Below, Absent}
+use Rattle.domains.specs.declared.place.Place.TheVariants.{Above, Absent}
 use Rattle.shelf.proofs.Numbering.{chosen_in, chosen_out, length_numbers}
 use Rattle.shelf.proofs.Perms.{pick_length}
 use Rattle.ordering.specs.Orders.{shrink}
@@ -54,15 +52,10 @@ dropping_none ok rows l =
     }
 
 from_above : (x : Place) → is_above x ≡ true → x ≡ Above
-from_above Above e = refl
-from_above Below e = absurd (false≢true e)
-from_above Absent e = absurd (false≢true e)
+from_above x e = grind arith
 
 -- one frame more left out of the table
 module _ {ok : List ℕ → Bool} {rows : List Row} {i size : ℕ} {kept : List Place} (h : Dropping ok rows i size kept) where
-  pub dropping_all : length rows ≤ i → above (take (length rows) kept) ≡ shrink ok (numbers 0 rows) (numbers 0 rows)
-  dropping_all l = sym (h.same ∙ ap (λ x. shrink ok x (above (take (length rows) kept))) (at_drop_all (numbers i) rows i l))
-
   module _ (l : i < length rows) where
     is_set : take (length rows) (set kept i Absent) ≡ set (take (length rows) kept) i Absent
     is_set = take-set-lt (length rows) kept i Absent l

@@ -1,5 +1,5 @@
 -- The greedy choice finds an order where there is one. Assumes nothing.
-use Rattle.std.proofs.Common.{◌≡◌, ℕ, zero, suc, ◌+◌, ◌*◌, ◌/◌, ◌<◌, ◌≤◌, Bool, true, false, cond, not, eqb, List, [], ◌∷◌, length, Some, None, Option, sym, refl, ap, ◌∙◌, subst, suc-mul, mul-suc, mul-add, arith}
+use Rattle.std.proofs.Common.{◌≡◌, ℕ, zero, suc, ◌+◌, ◌*◌, ◌/◌, ◌<◌, ◌≤◌, Bool, true, false, not, eqb, List, [], ◌∷◌, length, Some, None, Option, sym, refl, ap, ◌∙◌, subst, suc-mul, mul-suc, mul-add, arith}
 use mathlib.Core.List.{reverse_aux}
 use Rattle.std.proofs.lemmas.Bool.{both_ways}
 use Rattle.shelf.specs.Picks.{Pick, Perm}
@@ -8,37 +8,23 @@ use Rattle.shelf.specs.Picks.Perm.{done, next}
 use Rattle.timing.specs.Laws.{Laws}
 use Rattle.shelf.specs.Numbers.{without}
 use Rattle.shelf.specs.Apart.{Apart}
-use Rattle.shelf.proofs.Options.{some_none}
+use Rattle.std.proofs.lemmas.Option.{none-some}
 use Rattle.shelf.proofs.Numbering.{pick_is, apart_kept}
 use Rattle.shelf.proofs.Perms.{pick_length}
 use Rattle.ordering.specs.Orders.{found, examined, at_place, greedy, examinations}
 use Rattle.ordering.proofs.Audsley.{Fits, Ordered, placed}
 
-found_yes : (p : ℕ → Bool) (y : ℕ) (ys : List ℕ) → p y ≡ true → found p (y ∷ ys) ≡ Some y
-found_yes p y ys h = simp h
-
-found_not : (p : ℕ → Bool) (y : ℕ) (ys : List ℕ) → p y ≡ false → found p (y ∷ ys) ≡ found p ys
-found_not p y ys h = simp h
-
 pub found_some : (p : ℕ → Bool) (xs : List ℕ) (x : ℕ) → found p xs ≡ Some x → (r : List ℕ) × Pick x xs r × (p x ≡ true)
-found_some p [] x e = some_none x (sym e)
+found_some p [] x e = absurd (none-some x e)
 found_some p (y ∷ ys) x e = go (p y) refl (found_some p ys x)
   where
     go : (b : Bool) → p y ≡ b → (found p ys ≡ Some x → (r : List ℕ) × Pick x ys r × (p x ≡ true)) → (r : List ℕ) × Pick x (y ∷ ys) r × (p x ≡ true)
-    go true h ih = let k : x ≡ y = let f = found_yes p y ys h in cc in (ys, here k, ap p k ∙ h)
-    go false h ih = let i = ih (sym (found_not p y ys h) ∙ e) in (y ∷ i.0, there i.1, i.2)
+    go true h ih = let k : x ≡ y = grind arith in (ys, here k, ap p k ∙ h)
+    go false h ih = let i = ih (grind arith) in (y ∷ i.0, there i.1, i.2)
 
 pub found_none : (p : ℕ → Bool) {x : ℕ} {xs r : List ℕ} → Pick x xs r → found p xs ≡ None → p x ≡ false
-found_none p {x} (here {y = y} {r = r} e) h = go (p y) refl
-  where
-    go : (b : Bool) → p y ≡ b → p x ≡ false
-    go true k = some_none y (sym (found_yes p y r k) ∙ h)
-    go false k = ap p e ∙ k
-found_none p {x} (there {y = y} {xs = xs} q) h = go (p y) refl (found_none p q)
-  where
-    go : (b : Bool) → p y ≡ b → (found p xs ≡ None → p x ≡ false) → p x ≡ false
-    go true k ih = some_none y (sym (found_yes p y xs k) ∙ h)
-    go false k ih = ih (sym (found_not p y xs k) ∙ h)
+found_none p {x} (here {y = y} {r = r} e) h = grind arith
+found_none p {x} (there {y = y} {xs = xs} q) h = grind (arith, found_none p q)
 
 -- what the greedy choice owes: an order over ls, or that there is none
 abbrev pub Right : (ℕ → List ℕ → List ℕ → Bool) → List ℕ → List ℕ → Option (List ℕ) → Type 0
@@ -71,7 +57,7 @@ module _ {t : ℕ → List ℕ → List ℕ → Bool} (laws : Laws t) where
 -- the number of examinations
 pub examined_most : (p : ℕ → Bool) (xs : List ℕ) → examined p xs ≤ length xs
 examined_most p [] = omega arith
-examined_most p (x ∷ xs) = let h = examined_most p xs in elim (p x) as (λ b. cond b 1 (1 + examined p xs) ≤ suc (length xs)) [ true ↦ omega arith | false ↦ omega arith ]
+examined_most p (x ∷ xs) = grind (arith, examined_most p xs)
 
 pub triangle : ℕ → ℕ
 triangle zero = 0

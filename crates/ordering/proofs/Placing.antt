@@ -8,7 +8,7 @@ use Rattle.timing.specs.Places.{by_number}
 use Rattle.timing.specs.Places.{tested, above, below, row_at, is_above, is_below}
 use Rattle.frames.specs.declared.row.Row.{Row}
 use Rattle.domains.specs.declared.place.Place.{Place}
-use Rattle.domains.specs.declared.place.Place.TheVariants.{Above, Below, Absent}
+use Rattle.domains.specs.declared.place.Place.TheVariants.{Above, Below}
 use Rattle.shelf.proofs.Numbering.{chosen_apart, chosen_away, chosen_in, chosen_lies, chosen_most, chosen_out, pick_is}
 use Rattle.shelf.proofs.Perms.{pick_length}
 use Rattle.ordering.specs.Orders.{found, examined, at_place, greedy, examinations}
@@ -17,9 +17,7 @@ use Rattle.ordering.proofs.Records.{laws_by_number}
 use Rattle.ordering.proofs.Agreeing.{found_same, examined_same}
 
 above_not_below : (x : Place) → is_above x ≡ true → is_below x ≡ false
-above_not_below Above e = refl
-above_not_below Below e = let z : ◌≡◌ {A = ℕ} 0 1 = cc in absurd (omega arith)
-above_not_below Absent e = refl
+above_not_below x e = grind arith
 
 -- left places are to be given, n examinations are made, and bs are the frames placed
 pub record Placing (t : Row → List Row → List Row → Bool) (rows : List Row) (us : List ℕ) (count : ℕ) (ps : List Place) (bs : List ℕ) (left n : ℕ) : Type 0 where
@@ -95,11 +93,6 @@ module _ {t : Row → List Row → List Row → Bool} (laws : Laws t) {rows : Li
 
 -- as the loop has it: there is a place for each frame that is not yet placed
 module _ {t : Row → List Row → List Row → Bool} {rows : List Row} {us : List ℕ} {count : ℕ} {ps : List Place} {bs : List ℕ} {n : ℕ} (h : Placing t rows us count ps bs (count - length bs) n) where
-  pub placing_all : count ≤ length bs → (greedy (by_number t (row_at rows)) count us [] ≡ Some bs) × (n ≡ examinations (by_number t (row_at rows)) count us [])
-  placing_all l =
-      let done : Placing t rows us count ps bs 0 n = let none : count - length bs ≡ 0 = omega arith in subst (λ x. Placing t rows us count ps bs x n) none h in
-      (done.same, omega (arith, done.tried))
-
   module _ (laws : Laws t) (l : length bs < count) where
     more : Placing t rows us count ps bs (suc (count - suc (length bs))) n
     more = let k : count - length bs ≡ suc (count - suc (length bs)) = omega arith in subst (λ x. Placing t rows us count ps bs x n) k h

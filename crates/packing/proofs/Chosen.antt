@@ -1,35 +1,23 @@
 -- The choice is the first of the smallest growths. Assumes nothing.
-use Rattle.std.proofs.Common.{◌≡◌, ℕ, zero, suc, ◌<◌, ◌≤◌, leb, Some, None, Option, refl, subst, ⊎_elim, arith}
-use Rattle.std.proofs.lemmas.Bool.{leb-true, leb-false, cases_lt, cond_both}
+use Rattle.std.proofs.Common.{◌≡◌, ℕ, zero, suc, leb, Some, None, Option, refl, arith}
+use Rattle.std.proofs.lemmas.Bool.{leb-true, leb-false, cond_both}
 use Rattle.packing.specs.declared.choice.Choice.{Choice}
 use Rattle.packing.specs.Choices.{at_frame, lighter, lightest_below, Best}
 
 module _ (growth : ℕ → Option ℕ) (n : ℕ) where
-  -- the growth at n is the last below n + 1
-  at_last : (P : ℕ → Type 0) (k : ℕ) → k < suc n → (k < n → P k) → P n → P k
-  at_last P k l below here =
-      ⊎_elim {C = P k} below (λ m. let q : n ≡ k = omega arith in subst P q here) (cases_lt k n)
-
-  same_growth : (g h : ℕ) → growth n ≡ Some g → growth n ≡ Some h → g ≡ h
-  same_growth g h e f = cc
-
-  no_growth : (h : ℕ) → growth n ≡ None → growth n ≡ Some h → ⊥
-  no_growth h e f = let z : ◌≡◌ {A = ℕ} 0 1 = cc in omega arith
-
   -- one more
   step : (best : Option Choice) (o : Option ℕ) → growth n ≡ o → Best growth n best → Best growth (suc n) (lighter best (at_frame n o))
-  step None None e b =
-      λ k g l f. at_last (λ i. growth i ≡ Some g → ⊥) k l (λ m x. b k g m x) (no_growth g e) f
+  step None None e b = λ k g l f. grind (arith, b k g)
   step (Some c) None e b = (
     omega (arith, b.0),
     b.1,
-    (λ k g l f. at_last (λ i. growth i ≡ Some g → c.growth ≤ g) k l (λ m x. b.2 k g m x) (λ x. absurd (no_growth g e x)) f),
+    (λ k g l f. grind (arith, b.2 k g)),
     b.3,
   )
   step None (Some h) e b = (
     omega arith,
     e,
-    (λ k g l f. at_last (λ i. growth i ≡ Some g → h ≤ g) k l (λ m x. absurd (b k g m x)) (λ x. omega (arith, same_growth h g e x)) f),
+    (λ k g l f. grind (arith, b k g)),
     (λ k g l f. absurd (b k g l f)),
   )
   step (Some c) (Some h) e b =
@@ -37,13 +25,13 @@ module _ (growth : ℕ → Option ℕ) (n : ℕ) where
       (λ t. let le = leb-true c.growth h t in (
         omega (arith, b.0),
         b.1,
-        (λ k g l f. at_last (λ i. growth i ≡ Some g → c.growth ≤ g) k l (λ m x. b.2 k g m x) (λ x. omega (arith, le, same_growth h g e x)) f),
+        (λ k g l f. grind (arith, le, b.2 k g)),
         b.3,
       ))
       (λ t. let lt = leb-false c.growth h t in (
         omega arith,
         e,
-        (λ k g l f. at_last (λ i. growth i ≡ Some g → h ≤ g) k l (λ m x. omega (arith, lt, b.2 k g m x)) (λ x. omega (arith, same_growth h g e x)) f),
+        (λ k g l f. grind (arith, lt, b.2 k g)),
         (λ k g l f. omega (arith, lt, b.2 k g l f)),
       ))
 

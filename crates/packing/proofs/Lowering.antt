@@ -1,7 +1,7 @@
 -- The riders of each frame once a frame is gone. Assumes nothing.
-use Rattle.std.proofs.Common.{◌≡◌, ℕ, suc, ◌-◌, ◌<◌, cond, eqb, ltb, List, [], ◌∷◌, map, sym, refl, ap, ◌∙◌, ⊎_elim, arith}
+use Rattle.std.proofs.Common.{◌≡◌, ℕ, suc, ◌-◌, ◌<◌, cond, ltb, List, [], ◌∷◌, map, sym, refl, ap, ◌∙◌, ⊎_elim, arith}
 use Rattle.std.specs.List.{AllByRecursion}
-use Rattle.std.proofs.lemmas.Bool.{cases_Bool, eqb-true, eqb-false}
+use Rattle.std.proofs.lemmas.Bool.{cases_eq}
 use Rattle.std.proofs.lemmas.Bool.Decides.{nat_tests}
 use Rattle.signals.specs.declared.signal.Entry.{Entry}
 use Rattle.signals.specs.Names.{names}
@@ -25,18 +25,14 @@ raised_below f k n l = grind (arith, nat_tests)
 pub lowered_below : (f k n : ℕ) → k < n → f < n → (k ≡ f → ⊥) → lowered f k < n - 1
 lowered_below f k n l m ne = grind (arith, nat_tests)
 
-same_test : (f n k : ℕ) → (n ≡ f → ⊥) → eqb (lowered f n) k ≡ eqb n (raised f k)
-same_test f n k ne = grind (arith, nat_tests)
-
 pub riders_lowered : (f k : ℕ) (es : List Entry) → AllByRecursion (λ e. e.frame ≡ f → ⊥) es → riders k (map (lower f) es) ≡ riders (raised f k) es
 riders_lowered f k [] h = riders_nil k ∙ sym (riders_nil (raised f k))
 riders_lowered f k (e ∷ es) h =
-    let same = same_test f e.frame k h.0 in
     let on = riders_lowered f k es h.1 in
     ⊎_elim {C = riders k (map (lower f) (e ∷ es)) ≡ riders (raised f k) (e ∷ es)}
-    (λ t. rider k (lower f e) (map (lower f) es) (eqb-true _ _ t) ∙ ap (λ ss. e.signal ∷ ss) on ∙ sym (rider (raised f k) e es (eqb-true _ _ (sym same ∙ t))))
-    (λ t. no_rider k (lower f e) (map (lower f) es) (eqb-false _ _ t) ∙ on ∙ sym (no_rider (raised f k) e es (eqb-false _ _ (sym same ∙ t))))
-    (cases_Bool (eqb (lowered f e.frame) k))
+    (λ q. rider k (lower f e) (map (lower f) es) q ∙ ap (λ ss. e.signal ∷ ss) on ∙ sym (rider (raised f k) e es (grind (arith, nat_tests, h.0))))
+    (λ q. no_rider k (lower f e) (map (lower f) es) q ∙ on ∙ sym (no_rider (raised f k) e es (λ r. grind (arith, nat_tests, h.0))))
+    (cases_eq (lowered f e.frame) k)
 
 pub names_lowered : (f : ℕ) (es : List Entry) → names (map (lower f) es) ≡ names es
 names_lowered f [] = refl
@@ -46,8 +42,5 @@ names_lowered f (e ∷ es) = ap (λ ns. e.signal.name ∷ ns) (names_lowered f e
 pub lower_none : (f : ℕ) (es : List Entry) → AllByRecursion (λ e. e.frame < f) es → map (lower f) es ≡ es
 lower_none f [] h = refl
 lower_none f (e ∷ es) h =
-    let same : lowered f e.frame ≡ e.frame = stays f e.frame h.0 in
+    let same : lowered f e.frame ≡ e.frame = grind (arith, nat_tests, h.0) in
     ap (λ n. record { signal = e.signal; frame = n } ∷ map (lower f) es) same ∙ ap (λ es'. e ∷ es') (lower_none f es h.1)
-  where
-    stays : (f n : ℕ) → n < f → lowered f n ≡ n
-    stays f n l = grind (arith, nat_tests)

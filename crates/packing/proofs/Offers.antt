@@ -1,9 +1,8 @@
 -- What the look at one frame finds, and that the choice may take the signal. Assumes nothing.
-use Rattle.std.proofs.Common.{◌≡◌, ℕ, suc, ◌+◌, ◌-◌, ◌<◌, ◌≤◌, true, false, cond, ltb, List, [], ◌∷◌, ◌++◌, length, Some, None, Option, sym, ap, ◌∙◌, subst, ap₂, ⊎_elim, arith}
+use Rattle.std.proofs.Common.{◌≡◌, ℕ, suc, ◌+◌, ◌-◌, ◌<◌, ◌≤◌, true, false, List, [], ◌∷◌, ◌++◌, length, Some, None, ap, ◌∙◌, subst, arith}
+use Rattle.std.proofs.lemmas.Bool.Decides.{nat_tests}
 use native.Mathlib.Nat.{min-le_left}
 use Rattle.std.specs.List.{AllByRecursion}
-use Rattle.std.proofs.lemmas.Bool.{cond-true, cond-false, lt-ltb, le-ltb, ltb-true, eq-eqb, ne_eqb, le-leb, lt-leb, and_from, and_left, and_right, cases_lt}
-use Rattle.std.proofs.lemmas.Option.{cond_some}
 use Rattle.timing.specs.Carried.{in_set}
 use Rattle.frames.specs.Limits.{Lawful}
 use Rattle.signals.specs.declared.signal.Signal.{Signal}
@@ -36,29 +35,28 @@ module _ (cost : ℕ → ℕ → ℕ) (p : Packing) (s : Signal) (n : ℕ) where
   module _ (old : n < p.frames) where
     no_join : may_join (row p n) s ≡ false → None ≡ growth_at cost p s n
     unfolding growth_at
-    no_join t = sym (cond-true _ _ _ (lt-ltb _ _ old) ∙ cond-false _ _ _ t)
+    no_join t = grind (arith, nat_tests)
 
     pub other_sender : ((row p n).sender ≡ s.sender → ⊥) → None ≡ growth_at cost p s n
-    other_sender ne = no_join (and_left _ _ (ne_eqb _ _ ne))
+    other_sender ne = no_join (grind (arith, nat_tests))
 
     pub too_full : 64 < (row p n).fill + s.size → None ≡ growth_at cost p s n
-    too_full more = no_join (and_right _ _ (lt-leb _ _ more))
+    too_full more = no_join (grind (arith, nat_tests))
 
     pub joins : (row p n).sender ≡ s.sender → (row p n).fill + s.size ≤ 64 → (w v : ℕ) → w ≡ row_weight cost (row_with p n s) → v ≡ row_weight cost (row p n) → Some (w - v) ≡ growth_at cost p s n
     unfolding growth_at
     joins same room w v x y =
-        let yes : may_join (row p n) s ≡ true = and_from _ _ (eq-eqb _ _ same) (le-leb _ _ room) in
-        ap₂ (λ a b. Some (a - b)) x y ∙ sym (cond-true _ _ _ (lt-ltb _ _ old) ∙ cond-true _ _ _ yes)
+        let yes : may_join (row p n) s ≡ true = grind (arith, nat_tests) in grind (arith, nat_tests)
 
   -- a new one
   module _ (past : p.frames ≤ n) where
     pub no_room : 96 ≤ n → None ≡ growth_at cost p s n
     unfolding growth_at
-    no_room full = sym (cond-false _ _ _ (le-ltb _ _ past) ∙ cond-false _ _ _ (le-ltb _ _ full))
+    no_room full = grind (arith, nat_tests)
 
     pub opens : n < 96 → (w : ℕ) → w ≡ row_weight cost (row_with p n s) → Some w ≡ growth_at cost p s n
     unfolding growth_at
-    opens room w x = ap Some x ∙ sym (cond-false _ _ _ (le-ltb _ _ past) ∙ cond-true _ _ _ (lt-ltb _ _ room))
+    opens room w x = grind (arith, nat_tests)
 
   pub lawful_with : Sound p → LawfulSignal s → (row p n).fill + s.size ≤ 64 → Lawful (row_with p n s)
   lawful_with h l room = lawful_push (riders n p.signals) s (lawful_riders p n h) l room
@@ -77,16 +75,11 @@ unfolding choice growth_at
 choice_placeable cost p s c h l few free e =
     let o = subst (Best (growth_at cost p s) (suc p.frames)) e (best_is (growth_at cost p s) (suc p.frames)) in
     let n = c.frame in
-    let new : Option ℕ = cond (ltb n 96) (Some (row_weight cost (row_with p n s))) None in
-    let old : Option ℕ = cond (may_join (row p n) s) (Some (row_weight cost (row_with p n s) - row_weight cost (row p n))) None in
     record {
       lawful = l;
       few = few;
       free = free;
       near = omega (arith, o.0);
-      room = ⊎_elim {C = n < 96}
-          (λ m. omega (arith, h.room))
-          (λ m. ltb-true _ _ (cond_some (ltb n 96) _ _ (sym (cond-false _ old new (le-ltb _ _ m)) ∙ o.1)).0)
-          (cases_lt n p.frames);
-      joins = λ m. (cond_some (may_join (row p n) s) _ _ (sym (cond-true _ old new (lt-ltb _ _ m)) ∙ o.1)).0;
+      room = let most = h.room in grind (arith, nat_tests);
+      joins = λ m. grind (arith, nat_tests);
     }

@@ -1,15 +1,13 @@
 -- The first of the lightest offers, as the iterator over them picks it. Assumes nothing.
 use Rattle.std.proofs.Common.{◌≡◌, ℕ, zero, suc, ◌+◌, ◌-◌, Bool, true, false, List, [], ◌∷◌, ◌++◌, Some, None, Option, Ordering, fold, sym, refl, ap, ◌∙◌, subst, ap₂, map-id, append-nil, add-one, arith, zero-add}
+use Rattle.std.proofs.lemmas.Bool.Decides.{nat_tests}
 use Rattle.std.specs.Iterator.{PicksMinByKey, KeyTurn}
 use Rattle.std.specs.Fn.{CalledAt}
 use Rattle.std.specs.List.{FoldsTo, range_with_len, filter_map, cons_option, reduce}
 use Rattle.std.specs.Ordering.{nat_cmp, min_by_ordering}
-use Rattle.std.specs.Cmp.{ranked}
-use Rattle.std.specs.declared.cmp.Ordering.TheVariants.{Less, Equal, Greater}
 use Rattle.std.specs.declared.ops.RangeInclusive.{RangeInclusive}
 use Rattle.std.specs.Range.{range_inclusive_start, range_inclusive_end, range_inclusive_exhausted, range_inclusive_len, range_inclusive_left}
 use Rattle.std.proofs.iter.runs.Sources.{nat_range_inclusive_steps}
-use Rattle.std.proofs.lemmas.Bool.{cond-true, cond-false, le-leb, lt-leb}
 use Rattle.std.proofs.lemmas.Iterator.{YieldsList}
 use Rattle.std.proofs.lemmas.Iterator.Consumers.{YieldsList-from_shown, reduce_from_yields_List}
 use Rattle.std.proofs.lemmas.List.Elements.{filter_map-append}
@@ -49,9 +47,7 @@ abbrev pub less_grown : Choice → Choice → Choice
 less_grown b c = min_by_ordering (nat_cmp b.growth c.growth) b c
 
 lighter_of : (b c : Choice) (o : Ordering) → nat_cmp b.growth c.growth ≡ o → lighter (Some b) (Some c) ≡ Some (min_by_ordering o b c)
-lighter_of b c Less e = cond-true _ _ _ (le-leb b.growth c.growth (omega (arith, ranked b.growth c.growth Less (sym e))))
-lighter_of b c Equal e = cond-true _ _ _ (le-leb b.growth c.growth (omega (arith, ranked b.growth c.growth Equal (sym e))))
-lighter_of b c Greater e = cond-false _ _ _ (lt-leb b.growth c.growth (ranked b.growth c.growth Greater (sym e)))
+lighter_of b c o e = grind (arith, nat_tests)
 
 -- one more at the end of the list
 lighter_last : (os : List Choice) (o : Option Choice) → lighter (reduce less_grown os) o ≡ reduce less_grown (os ++ cons_option o [])
@@ -60,8 +56,7 @@ lighter_last [] (Some c) = refl
 lighter_last (b ∷ os) (Some c) = lighter_of (fold less_grown b os) c _ refl ∙ ap Some (sym (fold_push less_grown b os c))
 
 one_more : (n : ℕ) → range_with_len 0 (suc n) ≡ range_with_len 0 n ++ (n ∷ [])
-one_more n =
-    sym (ap (range_with_len 0) (add-one n)) ∙ sym (map-id (range_with_len 0 (n + 1))) ∙ map-range_with_len_more (λ k. k) 0 n n (zero-add n) ∙ ap (λ ks. ks ++ (n ∷ [])) (map-id (range_with_len 0 n))
+one_more n = rw add-one at (simp map-id at (map-range_with_len_more (λ k. k) 0 n n (zero-add n)))
 
 module _ (growth : ℕ → Option ℕ) where
   abbrev offers : ℕ → List Choice
@@ -75,9 +70,7 @@ module _ (growth : ℕ → Option ℕ) where
       ∙ sym (lighter_last (offers n) (at_frame n (growth n))) ∙ ap (λ o. lighter o (at_frame n (growth n))) (lightest_is n)
 
 growth_of : (o : Ordering) (b c : Choice) → min_by_ordering o b.growth c.growth ≡ (min_by_ordering o b c).growth
-growth_of Less b c = refl
-growth_of Equal b c = refl
-growth_of Greater b c = refl
+growth_of o b c = grind arith
 
 -- each call gives an offer's growth, so what is picked by key is the first of those that grow least
 module _ {F : Type 0} (g : Mut F (Bor Choice × Unit {0}) ℕ) (f : F) (calls : (x : Choice) (k : ℕ) (q : F) → CalledAt g f x k q → (q ≡ f) × (k ≡ x.growth)) where

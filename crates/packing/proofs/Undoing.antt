@@ -1,9 +1,10 @@
 -- The last entered signal, withdrawn, leaves what was there before it. Assumes nothing.
 use Rattle.std.proofs.Common.{◌≡◌, ℕ, suc, ◌-◌, ◌<◌, ◌≤◌, max, true, false, List, [], ◌∷◌, ◌++◌, length, refl, ap, ◌∙◌, ap₂, ⊎_elim, zero-add, arith}
+use Rattle.std.proofs.lemmas.Grind.{common_steps}
 use Rattle.std.specs.List.{remove}
 use Rattle.std.proofs.ByRecursion.{All-weaker}
 use Rattle.std.proofs.lemmas.List.{get_or_push}
-use Rattle.std.proofs.lemmas.Bool.{cond-true, cond-false, cases_lt, cases_Bool}
+use Rattle.std.proofs.lemmas.Bool.{cond-true, cond-false, cases_lt, true_from_ne_false}
 use Rattle.signals.specs.declared.signal.Signal.{Signal}
 use Rattle.signals.specs.declared.signal.Entry.{Entry}
 use Rattle.signals.specs.Names.{no_entry}
@@ -18,8 +19,7 @@ use Rattle.packing.proofs.Lowering.{lower_none}
 use Rattle.packing.proofs.Sounds.{Sound, Fair}
 
 removed_push : {X : Type 0} (xs : List X) (x : X) → remove (xs ++ (x ∷ [])) (length xs) ≡ xs
-removed_push [] x = refl
-removed_push (y ∷ xs) x = ap (λ l. y ∷ l) (removed_push xs x)
+removed_push xs x = grind (arith, common_steps)
 
 module _ (p : Packing) (s : Signal) (n : ℕ) (h : Sound p) (may : Placeable p s n) where
   abbrev new : Entry
@@ -27,10 +27,8 @@ module _ (p : Packing) (s : Signal) (n : ℕ) (h : Sound p) (may : Placeable p s
 
   -- no frame was empty
   any_old : n < p.frames → any_in n p.signals ≡ true
-  any_old l = ⊎_elim {C = any_in n p.signals ≡ true}
-      (λ t. t)
-      (λ t. absurd (let no : ⊥ = omega (arith, (h.frames n l).filled.0, ap (λ ss. (row_by ss).fill) (riders_none n p.signals (none_in n p.signals t)), ap (λ r. r.fill) row_nil) in no))
-      (cases_Bool (any_in n p.signals))
+  any_old l =
+      true_from_ne_false (any_in n p.signals) (λ t. omega (arith, (h.frames n l).filled.0, ap (λ ss. (row_by ss).fill) (riders_none n p.signals (none_in n p.signals t)), ap (λ r. r.fill) row_nil))
 
   any_new : p.frames ≤ n → any_in n p.signals ≡ false
   any_new l =

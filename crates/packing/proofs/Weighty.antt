@@ -15,7 +15,7 @@ use Rattle.packing.proofs.Offers.{heavier}
 use Rattle.packing.proofs.Placing.{room_at}
 use Rattle.packing.proofs.Rowed.{rows_long, row_at, rows_joined, rows_opened}
 use Rattle.packing.proofs.Sounds.{Sound}
-use Rattle.shelf.proofs.Options.{some_same}
+use Rattle.std.proofs.lemmas.Option.{same_Some}
 
 module _ (cost : ℕ → ℕ → ℕ) (up : (k p q : ℕ) → p ≤ q → q ≤ 64 → cost k p ≤ cost k q) (p : Packing) (s : Signal) (h : Sound p) where
   long : length (rows p) ≡ p.frames
@@ -58,7 +58,7 @@ module _ (cost : ℕ → ℕ → ℕ) (up : (k p q : ℕ) → p ≤ q → q ≤ 
   lightest c e may =
       let best = subst (Best (growth_at cost p s) (suc p.frames)) e (best_is (growth_at cost p s) (suc p.frames)) in
       let o = grown c.frame may in
-      let g : c.growth ≡ o.0 = some_same _ _ (sym best.1 ∙ o.1) in
+      let g : c.growth ≡ o.0 = same_Some _ _ (sym best.1 ∙ o.1) in
       record {
         frame = c.frame;
         may = may;

@@ -1,5 +1,5 @@
 -- The first no of a list of questions, and what a call then does. Assumes nothing.
-use Rattle.std.proofs.Common.{◌≡◌, ℕ, ◌<◌, ◌≤◌, Bool, true, false, cond, [], ◌∷◌, ◌++◌, length, is_some, Some, None, Ok, Err, Option, sym, refl, ap, ◌∙◌, ap₂, arith}
+use Rattle.std.proofs.Common.{◌≡◌, ℕ, ◌<◌, ◌≤◌, Bool, true, false, cond, [], ◌∷◌, ◌++◌, length, is_some, Some, None, Ok, Err, Option, refl, ap, ◌∙◌, ap₂, arith}
 use Rattle.std.specs.Option.{ok_or}
 use Rattle.std.proofs.lemmas.Bool.{cond-true, cond-false, lt-ltb, le-ltb, not_from_true, not_from_false}
 use Rattle.signals.specs.declared.signal.Signal.{Signal}
@@ -15,16 +15,13 @@ use Rattle.plan.specs.declared.fault.PlanFault.{PlanFault}
 use Rattle.plan.specs.declared.fault.PlanFault.TheVariants.{NameTaken, SignalsFull, FramesFull, NameUnknown}
 use Rattle.plan.specs.Drafts.{chosen, unless, entered}
 use Rattle.plan.specs.Questions.{Questions, first_no, figure_questions, place_questions, enter_questions, name_questions, Asked}
-use Rattle.shelf.proofs.Options.{is_none}
 
 -- what was found, where a name that is not found is a fault
 pub found_ok : {X : Type 0} (o : Option X) (f : PlanFault) (x : X) → ok_or o f ≡ Ok x → o ≡ Some x
-found_ok None f x e = let z : ◌≡◌ {A = ℕ} 0 1 = cc in absurd (let no : ⊥ = omega arith in no)
-found_ok (Some y) f x e = cc
+found_ok o f x e = grind arith
 
 pub found_err : {X : Type 0} (o : Option X) (f g : PlanFault) → ok_or o f ≡ Err g → (o ≡ None) × (g ≡ f)
-found_err None f g e = let same : f ≡ g = cc in (refl, sym same)
-found_err (Some y) f g e = let z : ◌≡◌ {A = ℕ} 0 1 = cc in absurd (let no : ⊥ = omega arith in no)
+found_err o f g e = grind arith
 
 -- the questions of a list come before those of another
 abbrev or_else : Option PlanFault → Option PlanFault → Option PlanFault
@@ -32,8 +29,7 @@ or_else None o = o
 or_else (Some f) o = Some f
 
 or_else_cond : (t : Bool) (o : Option PlanFault) (f : PlanFault) (p : Option PlanFault) → cond t (or_else o p) (Some f) ≡ or_else (cond t o (Some f)) p
-or_else_cond true o f p = refl
-or_else_cond false o f p = refl
+or_else_cond t o f p = grind arith
 
 first_no_append : (xs ys : Questions) → first_no (xs ++ ys) ≡ or_else (first_no xs) (first_no ys)
 first_no_append [] ys = refl
@@ -69,7 +65,7 @@ module _ (domains : ℕ) (cost : ℕ → ℕ → ℕ) (p : Packing) (s : Signal)
       pub all_asked : Sound p → LawfulSignal s → length p.signals < 256 → (o : Option Choice) → choice cost p s ≡ o → Asked domains cost p s (ok_or o FramesFull)
       all_asked h l few None e = by_choice None few e
       all_asked h l few (Some c) e =
-          (by_choice (Some c) few e, e, choice_placeable cost p s c h l few (not_found s.name 0 p.signals (is_none _ free)) e)
+          (by_choice (Some c) few e, e, choice_placeable cost p s c h l few (not_found s.name 0 p.signals (grind arith)) e)
 
   -- what enter does
   pub enter_refused : (f : PlanFault) → first_no (enter_questions domains cost p s) ≡ Some f → entered domains cost p s ≡ p

@@ -1,6 +1,6 @@
 -- The questions of a signal's figures, by the limits of a frame of its own. Assumes nothing.
-use Rattle.std.proofs.Common.{◌≡◌, ℕ, ◌^◌, ◌<◌, ◌≤◌, true, false, ◌&&◌, leb, ltb, Some, refl, ⊎_elim, arith}
-use Rattle.std.proofs.lemmas.Bool.{cases_Bool, and_parts, leb-true, ltb-true, le-leb}
+use Rattle.std.proofs.Common.{◌≡◌, ℕ, ◌^◌, ◌≤◌, true, false, ◌&&◌, leb, ltb, Some, refl, arith}
+use Rattle.std.proofs.lemmas.Bool.{le-leb}
 use Rattle.std.proofs.lemmas.Bool.Decides.{nat_tests}
 use Rattle.frames.specs.declared.fault.RowFault.{RowFault}
 use Rattle.frames.specs.declared.fault.RowFault.TheVariants.{Fill, Period, Deadline, Set}
@@ -16,15 +16,11 @@ module _ (low x high : ℕ) where
   inside h = grind (arith, nat_tests)
 
   outside : (Within low x high → ⊥) → within low x high ≡ false
-  outside h =
-      ⊎_elim {C = within low x high ≡ false} (λ e. let p = and_parts (leb low x) (leb x high) e in absurd (h (leb-true low x p.0, leb-true x high p.1))) (λ e. e) (cases_Bool (within low x high))
+  outside h = grind (arith, nat_tests)
 
 -- a set that no frame has is in no bank of at most four domains
 unbanked : (set most : ℕ) → most ≤ 16 → (Within 1 set 15 → ⊥) → (leb 1 set && ltb set most) ≡ false
-unbanked set most few h =
-    ⊎_elim {C = (leb 1 set && ltb set most) ≡ false}
-    (λ e. let p = and_parts (leb 1 set) (ltb set most) e in let l : set < most = ltb-true set most p.1 in absurd (h (leb-true 1 set p.0, omega arith)))
-    (λ e. e) (cases_Bool (leb 1 set && ltb set most))
+unbanked set most few h = grind (arith, nat_tests)
 
 -- the first question that is answered with no is that of the limit that its row breaks
 pub breaks_first : (domains : ℕ) (s : Signal) → 2 ^ domains ≤ 16 → s.sender ≤ 15 → (e : RowFault) → Breaks (alone s) e → Some (plan_fault e) ≡ first_no (figure_questions domains s)

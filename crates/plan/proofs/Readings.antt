@@ -1,10 +1,11 @@
 -- What the readings look up. Assumes nothing.
-use Rattle.std.proofs.Common.{◌≡◌, ℕ, zero, suc, ◌+◌, ◌<◌, ◌≤◌, Bool, true, false, cond, ◌||◌, eqb, List, [], ◌∷◌, length, get_or, take, Some, None, Ok, Err, is_ok, Result, sym, refl, ap, ◌∙◌, ap₂, arith}
+use Rattle.std.proofs.Common.{◌≡◌, ℕ, zero, suc, ◌+◌, ◌<◌, ◌≤◌, Bool, true, false, List, [], ◌∷◌, length, get_or, take, Some, None, Ok, Err, is_ok, Result, sym, refl, ap, ◌∙◌, ap₂, arith}
+use Rattle.std.proofs.lemmas.Bool.Decides.{nat_tests}
 use Rattle.std.specs.List.{AllByRecursion}
 use Rattle.std.proofs.lemmas.List.FromFn.{length-map-range_with_len}
 use Rattle.std.proofs.ByRecursion.{All-weaker}
 use Rattle.std.proofs.lemmas.List.{length-take-le, get_or-take}
-use Rattle.std.proofs.lemmas.Bool.{eq-eqb, ne_eqb, cond-true, lt-ltb}
+use Rattle.std.proofs.lemmas.Bool.{cond-true, lt-ltb}
 use Rattle.frames.specs.declared.row.Row.{Row}
 use Rattle.frames.specs.declared.frame.Frame.{Frame}
 use Rattle.frames.specs.Limits.{Lawful}
@@ -36,21 +37,19 @@ rows_long p = length-map-range_with_len (row p) 0 p.frames
 -- whether a number was chosen
 among_none : (k : ℕ) (xs : List ℕ) → AllByRecursion (λ y. k < y) xs → among k xs ≡ false
 among_none k [] h = refl
-among_none k (x ∷ xs) h = ap₂ ◌||◌ (ne_eqb x k (omega (arith, h.0))) (among_none k xs h.1)
+among_none k (x ∷ xs) h = grind (arith, nat_tests, h.0, among_none k xs h.1)
 
 among_chosen : {P : Type 0} (is : P → Bool) (i : ℕ) (ps : List P) (n : ℕ) (d : P) → n < length ps → among (i + n) (chosen is i ps) ≡ is (get_or ps n d)
 among_chosen is i [] n d l = absurd (omega arith)
 among_chosen is i (p ∷ ps) zero d l =
     let r = chosen is (i + 1) ps in
     let no : among (i + 0) r ≡ false = among_none (i + 0) r (All-weaker (λ y. i + 1 ≤ y) (λ y. i + 0 < y) (λ y k. omega arith) r (chosen_from is (i + 1) ps)) in
-    let yes : eqb i (i + 0) ≡ true = eq-eqb i (i + 0) (omega arith) in
-    elim (is p) as (λ b. among (i + 0) (cond b (i ∷ r) r) ≡ b) [ true ↦ ap (λ b. b || among (i + 0) r) yes | false ↦ no ]
+    grind (arith, nat_tests)
 among_chosen is i (p ∷ ps) (suc n) d l =
     let r = chosen is (i + 1) ps in
     let e : i + suc n ≡ i + 1 + n = omega arith in
     let ih : among (i + suc n) r ≡ is (get_or ps n d) = ap (λ k. among k r) e ∙ among_chosen is (i + 1) ps n d (omega arith) in
-    let no : eqb i (i + suc n) ≡ false = ne_eqb i (i + suc n) (omega arith) in
-    elim (is p) as (λ b. among (i + suc n) (cond b (i ∷ r) r) ≡ is (get_or ps n d)) [ true ↦ ap (λ b. b || among (i + suc n) r) no ∙ ih | false ↦ ih ]
+    grind (arith, nat_tests, ih)
 
 pub among_above : (table : List Place) (frames n : ℕ) → n < frames → frames ≤ length table → among n (above (take frames table)) ≡ is_above (get_or table n Above)
 among_above table frames n l f =

@@ -1,10 +1,11 @@
 -- What order leaves standing is right. Assumes nothing.
-use Rattle.std.proofs.Common.{◌≡◌, ℕ, ◌+◌, ◌<◌, ◌≤◌, true, not, List, [], ◌∷◌, ◌++◌, map, length, Some, None, Option, sym, refl, ap, ◌∙◌, subst, ap₂, arith}
+use Rattle.std.proofs.Common.{◌≡◌, ℕ, ◌+◌, ◌<◌, ◌≤◌, true, List, [], ◌∷◌, ◌++◌, map, length, Some, None, Option, sym, refl, ap, ◌∙◌, subst, ap₂, arith}
+use Rattle.std.proofs.lemmas.Bool.Decides.{nat_tests}
 use Rattle.std.specs.List.{AllByRecursion}
 use Rattle.std.proofs.lemmas.List.FromFn.{get_or-map-range_with_len}
 use Rattle.std.proofs.ByRecursion.{All-weaker}
-use Rattle.std.proofs.lemmas.List.{length-map}
-use Rattle.std.proofs.lemmas.Bool.{cond-true, cond-false, lt-ltb, eq-eqb, ne_eqb}
+use Rattle.std.proofs.lemmas.List.{length-map, map-append}
+use Rattle.std.proofs.lemmas.Bool.{cond-true, lt-ltb}
 use Rattle.frames.specs.declared.row.Row.{Row}
 use Rattle.timing.specs.Carried.{carried}
 use Rattle.domains.specs.Asked.{no_row}
@@ -33,18 +34,14 @@ use Rattle.plan.proofs.Readings.{rows_long}
 use Rattle.plan.proofs.Wording.{to_meets, to_order, from_order, greedy_picked, shrink_filtered}
 
 place_split : (n : ℕ) (us ls : List ℕ) → Apart (us ++ (n ∷ ls)) → place_in n (us ++ (n ∷ ls)) ≡ length us
-place_split n [] ls a = cond-false _ _ _ (ap not (eq-eqb n n refl))
+place_split n [] ls a = grind (arith, nat_tests)
 place_split n (u ∷ us) ls a =
     let ne : u ≡ n → ⊥ = λ e. all_pick (λ z. z ≡ u → ⊥) a.0 (pick_middle n us ls) (sym e) in
-    cond-true _ _ _ (ap not (ne_eqb u n ne)) ∙ omega (arith, place_split n us ls a.1)
+    grind (arith, nat_tests, place_split n us ls a.1)
 
 all_split : {X : Type 0} (P : X → Type 0) (us : List X) (n : X) (ls : List X) → AllByRecursion P (us ++ (n ∷ ls)) → AllByRecursion P us × P n × AllByRecursion P ls
 all_split P [] n ls h = (tt, h.0, h.1)
 all_split P (u ∷ us) n ls h = let k = all_split P us n ls h.1 in ((h.0, k.0), k.1, k.2)
-
-pub map_split : {X Y : Type 0} (f : X → Y) (us : List X) (n : X) (ls : List X) → map f (us ++ (n ∷ ls)) ≡ map f us ++ (f n ∷ map f ls)
-map_split f [] n ls = refl
-map_split f (u ∷ us) n ls = ap (λ l. f u ∷ l) (map_split f us n ls)
 
 module _ (p : Packing) where
   -- a frame that there is
@@ -71,11 +68,11 @@ module _ (p : Packing) where
         ap (unless_refused (identifier_at (place_in n o) ∷ [])) (cond-true _ _ _ (lt-ltb _ _ each_below.1)) ∙ ap (λ q. gives (identifier_at q ∷ [])) at_place
 
     pub split_rows : rows_at p o ≡ rows_at p us ++ (row_at (rows p) n ∷ rows_at p ls)
-    split_rows = ap (rows_at p) split ∙ map_split (row_at (rows p)) us n ls
+    split_rows = ap (rows_at p) split ∙ map-append (row_at (rows p)) us (n ∷ ls)
 
     lined : map (row p) o ≡ rows_at p us ++ (row p n ∷ rows_at p ls)
     lined =
-        ap (map (row p)) split ∙ map_split (row p) us n ls ∙ ap₂ (λ a b. a ++ (row p n ∷ b)) (rows_same us each_below.0) (rows_same ls each_below.2)
+        ap (map (row p)) split ∙ map-append (row p) us (n ∷ ls) ∙ ap₂ (λ a b. a ++ (row p n ∷ b)) (rows_same us each_below.0) (rows_same ls each_below.2)
 
     long : length (rows_at p us ++ (row p n ∷ rows_at p ls)) ≤ 96
     long = omega (arith, ap length lined, length-map o (row p), perm_length once, length_numbers 0 (rows p), rows_long p)

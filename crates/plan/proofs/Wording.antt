@@ -1,8 +1,10 @@
 -- Orders and conflicts by the test, and in the words of the subject. Assumes nothing.
 use Rattle.std.proofs.Common.{◌≡◌, ℕ, zero, suc, ◌<◌, Bool, true, false, cond, not, ◌||◌, eqb, List, [], ◌∷◌, ◌++◌, length, Some, None, Option, sym, refl, ap, ◌∙◌, subst, subst₂, arith}
+use Rattle.std.proofs.lemmas.Option.{none-some, same_Some}
+use Rattle.std.proofs.lemmas.List.{nil_from_length}
 use Rattle.std.specs.List.{AllByRecursion}
 use Rattle.std.proofs.ByRecursion.{All-weaker}
-use Rattle.std.proofs.lemmas.Bool.{le-leb, leb-true, and_parts, and_from, false≢true}
+use Rattle.std.proofs.lemmas.Bool.{le-leb, leb-true, false≢true}
 use Rattle.frames.specs.declared.row.Row.{Row}
 use Rattle.timing.specs.Carried.{carried}
 use Rattle.shelf.specs.Apart.{Apart}
@@ -34,36 +36,30 @@ from_timely (Some t) d e = record { time = t; is = refl; kept = leb-true t d e }
 to_timely : (o : Option ℕ) (d : ℕ) → InTime o d → timely o d ≡ true
 to_timely o d w = ap (λ q. timely q d) w.is ∙ le-leb w.time d w.kept
 
-or_right : (b c : Bool) → b ≡ true → (not b || c) ≡ true → c ≡ true
-or_right true c e h = h
-or_right false c e h = absurd (false≢true e)
-
 or_make : (b c : Bool) → (b ≡ true → c ≡ true) → (not b || c) ≡ true
-or_make true c h = h refl
-or_make false c h = refl
+or_make b c h = grind arith
 
 module _ (m : Bank) where
   abbrev one : ℕ → Row → List Row → List Row → Bool
   one k f us ls = in_domain m.response k f us ls
 
   from_one : (k : ℕ) (f : Row) (us ls : List Row) → one k f us ls ≡ true → carried k f ≡ true → InTime (response_in m.response k f us ls) f.deadline
-  from_one k f us ls e c = from_timely (response_in m.response k f us ls) f.deadline (or_right (carried k f) (timely (response_in m.response k f us ls) f.deadline) c e)
+  from_one k f us ls e c = from_timely (response_in m.response k f us ls) f.deadline (grind arith)
 
   to_one : (k : ℕ) (f : Row) (us ls : List Row) → (carried k f ≡ true → InTime (response_in m.response k f us ls) f.deadline) → one k f us ls ≡ true
   to_one k f us ls h = or_make (carried k f) (timely (response_in m.response k f us ls) f.deadline) (λ c. to_timely (response_in m.response k f us ls) f.deadline (h c))
 
   parts : (f : Row) (us ls : List Row) → in_time m f us ls ≡ true → (k : ℕ) → k < 4 → one k f us ls ≡ true
   unfolding everywhere
-  parts f us ls e zero l = (and_parts (one 0 f us ls) _ e).0
-  parts f us ls e (suc zero) l = (and_parts (one 1 f us ls) _ (and_parts (one 0 f us ls) _ e).1).0
-  parts f us ls e (suc (suc zero)) l = (and_parts (one 2 f us ls) _ (and_parts (one 1 f us ls) _ (and_parts (one 0 f us ls) _ e).1).1).0
-  parts f us ls e (suc (suc (suc zero))) l = (and_parts (one 3 f us ls) _ (and_parts (one 2 f us ls) _ (and_parts (one 1 f us ls) _ (and_parts (one 0 f us ls) _ e).1).1).1).0
+  parts f us ls e zero l = grind arith
+  parts f us ls e (suc zero) l = grind arith
+  parts f us ls e (suc (suc zero)) l = grind arith
+  parts f us ls e (suc (suc (suc zero))) l = grind arith
   parts f us ls e (suc (suc (suc (suc k)))) l = absurd (omega arith)
 
   all_four : (f : Row) (us ls : List Row) → ((k : ℕ) → k < 4 → one k f us ls ≡ true) → in_time m f us ls ≡ true
   unfolding everywhere
-  all_four f us ls x =
-      and_from (one 0 f us ls) _ (x 0 (omega arith)) (and_from (one 1 f us ls) _ (x 1 (omega arith)) (and_from (one 2 f us ls) _ (x 2 (omega arith)) (and_from (one 3 f us ls) true (x 3 (omega arith)) refl)))
+  all_four f us ls x = grind (arith, x 0, x 1, x 2, x 3)
 
   pub to_meets : (ys : List Row) → Meets (in_time m) ys → MeetsAll m ys
   to_meets ys h us f ls e k l c = from_one k f us ls (parts f us ls (h us f ls e) k l) c
@@ -86,7 +82,7 @@ module _ (m : Bank) where
 
   -- the first that passes
   found_first : (q : ℕ → Bool) (us : List ℕ) (x : ℕ) → found q us ≡ Some x → (earlier : List ℕ) × (later : List ℕ) × (us ≡ earlier ++ (x ∷ later)) × AllByRecursion (λ g. q g ≡ false) earlier × (q x ≡ true)
-  found_first q [] x e = absurd (let z : ◌≡◌ {A = ℕ} 0 1 = cc in let no : ⊥ = omega arith in no)
+  found_first q [] x e = absurd (none-some x e)
   found_first q (u ∷ us) x e = go (q u) refl e (found_first q us x)
     where
       go : (b : Bool) → q u ≡ b → cond b (Some u) (found q us) ≡ Some x → (found q us ≡ Some x → (earlier : List ℕ) × (later : List ℕ) × (us ≡ earlier ++ (x ∷ later)) × AllByRecursion (λ g. q g ≡ false) earlier × (q x ≡ true))
@@ -94,15 +90,8 @@ module _ (m : Bank) where
       go true t h ih = let z : u ≡ x = cc in ([], us, ap (λ w. w ∷ us) z, tt, subst (λ w. q w ≡ true) z t)
       go false t h ih = let r = ih h in (u ∷ r.0, r.1, ap (λ l. u ∷ l) r.2, (t, r.3), r.4)
 
-  empty : (us : List ℕ) → length us ≡ 0 → us ≡ []
-  empty [] e = refl
-  empty (u ∷ us) e = absurd (omega arith)
-
   pub greedy_picked : (p : Packing) (n : ℕ) (us bs o : List ℕ) → Apart us → length us ≡ n → greedy (by_number (in_time m) (row_at (rows p))) n us bs ≡ Some o → Picked m p us bs o
-  greedy_picked p zero us bs o a l e = subst₂ (λ x y. Picked m p x bs y) (sym (empty us l)) (the e) full
-    where
-      the : ◌≡◌ {A = Option (List ℕ)} (Some bs) (Some o) → bs ≡ o
-      the q = cc
+  greedy_picked p zero us bs o a l e = subst₂ (λ x y. Picked m p x bs y) (sym (nil_from_length us l)) (same_Some _ _ e) full
   greedy_picked p (suc n) us bs o a l e = go (found q us) refl e (λ x k. greedy_picked p n (without x us) (x ∷ bs) o (apart_kept (λ k. not (eqb k x)) us a) k)
     where
       t : ℕ → List ℕ → List ℕ → Bool
@@ -112,7 +101,7 @@ module _ (m : Bank) where
       q = at_place t us bs
 
       go : (f : Option ℕ) → found q us ≡ f → elim f [ None ↦ None | Some x ↦ greedy t n (without x us) (x ∷ bs) ] ≡ Some o → ((x : ℕ) → length (without x us) ≡ n → greedy t n (without x us) (x ∷ bs) ≡ Some o → Picked m p (without x us) (x ∷ bs) o) → Picked m p us bs o
-      go None h k ih = absurd (let z : ◌≡◌ {A = ℕ} 0 1 = cc in let no : ⊥ = omega arith in no)
+      go None h k ih = absurd (none-some o k)
       go (Some x) h k ih =
           let r = found_first q us x h in
           let s = found_some q us x h in

@@ -1,8 +1,8 @@
 -- The duties of a radio link. Assumes nothing.
 use Rattle.std.specs.Prelude.{◌≡◌, ℕ, ◌+◌, ◌≤◌, min, cond, List, ◌∷◌, Some, None, nat_le}
+use Rattle.std.proofs.lemmas.Bool.Decides.{nat_tests}
 use Rattle.std.proofs.Common.{ap, ap₂, arith, mul-le-mul_left}
 use Rattle.std.proofs.lemmas.Nat.{mul-le}
-use Rattle.std.proofs.lemmas.Bool.{cond_both, leb-true}
 use Rattle.shelf.specs.Folds.{least}
 use Rattle.shelf.specs.Picks.{Perm}
 use Rattle.shelf.specs.Times.{NoLater, AtMost}
@@ -34,8 +34,7 @@ alike s us ls us' ls' h k = ap₂ (λ (r m : ℕ). cond (nat_le r m) (Some r) No
 module _ (s x : Stream) (us ls : List Stream) where
   time_bounded : Fit s → AtMost horizon (radio_time s us ls)
   time_bounded fit =
-      cond_both (nat_le (round s us ls) (shortest s us ls)) (Some (round s us ls)) None (AtMost horizon)
-      (λ e. omega (arith, leb-true _ _ e, least_le period (least period s.period us) ls, least_le period s.period us, fit.paced)) (λ e. tt)
+      grind (arith, nat_tests, least_le period (least period s.period us) ls, least_le period s.period us, fit.paced)
 
   without_above : NoLater (radio_time s (x ∷ us) ls) (radio_time s us ls)
   without_above =

@@ -1,11 +1,12 @@
 -- A frame that is left out stands no higher than before. Assumes nothing.
-use Rattle.std.proofs.Common.{◌≡◌, ℕ, ◌-◌, ◌<◌, ◌≤◌, Bool, true, false, cond, eqb, List, length, get_or, set, is_some, Some, None, Option, sym, refl, ap, ◌∙◌, subst, subst₂, ⊎_elim, arith}
-use Rattle.std.proofs.lemmas.List.{get_or-set_same, get_or-set_other, set_past}
-use Rattle.std.proofs.lemmas.Bool.{cases_eq, cases_lt}
+use Rattle.std.proofs.Common.{◌≡◌, ℕ, ◌-◌, ◌<◌, ◌≤◌, Bool, true, cond, eqb, List, length, get_or, set, is_some, Some, None, Option, sym, refl, ap, ◌∙◌, subst, subst₂, ⊎_elim, arith}
+use Rattle.std.proofs.lemmas.Grind.{common_steps}
+use Rattle.std.proofs.lemmas.List.{set_past}
+use Rattle.std.proofs.lemmas.Bool.{cases_lt}
 use Rattle.frames.specs.declared.row.Row.{Row}
 use Rattle.shelf.specs.Times.{NoLater}
 use Rattle.domains.specs.declared.place.Place.{Place}
-use Rattle.domains.specs.declared.place.Place.TheVariants.{Above, Below, Absent}
+use Rattle.domains.specs.declared.place.Place.TheVariants.{Absent}
 use Rattle.domains.specs.Asked.{stance, asked}
 use Rattle.domains.specs.Duties.{Duties}
 use Rattle.domains.specs.Replies.{Lower}
@@ -13,25 +14,20 @@ use Rattle.domains.proofs.Asking.{call_laws}
 use Rattle.relief.specs.Gains.{Gains}
 
 lower_refl : (p : Place) → Lower p p
-lower_refl Above = tt
-lower_refl Below = tt
-lower_refl Absent = tt
+lower_refl p = grind arith
 
 lower_absent : (p : Place) → Lower p Absent
-lower_absent Above = tt
-lower_absent Below = tt
-lower_absent Absent = tt
+lower_absent p = grind arith
 
 lower_if : (b : Bool) (p q : Place) → Lower p q → Lower (cond b Absent p) (cond b Absent q)
-lower_if true p q h = tt
-lower_if false p q h = h
+lower_if b p q h = grind arith
 
 within : (places : List Place) (f i : ℕ) → i < length places → (j : ℕ) → Lower (stance places f j) (stance (set places i Absent) f j)
 within places f i h j =
     lower_if (eqb j f) (get_or places j Absent) (get_or (set places i Absent) j Absent)
-    (⊎_elim {C = Lower (get_or places j Absent) (get_or (set places i Absent) j Absent)}
-    (λ e. subst (λ (q : Place). Lower (get_or places j Absent) q) (sym (ap (λ n. get_or (set places i Absent) n Absent) e ∙ get_or-set_same places i Absent Absent h)) (lower_absent (get_or places j Absent)))
-    (λ ne. rw (get_or-set_other places i j Absent Absent ne) (lower_refl (get_or places j Absent))) (cases_eq j i))
+    (let here = lower_absent (get_or places j Absent) in
+    let other = lower_refl (get_or places j Absent) in
+    grind (arith, common_steps))
 
 left_out : (places : List Place) (f i j : ℕ) → Lower (stance places f j) (stance (set places i Absent) f j)
 left_out places f i j =
@@ -40,9 +36,7 @@ left_out places f i j =
 
 -- what the second answer is, where the first is a time
 stays : (o u : Option ℕ) → NoLater o u → (t : ℕ) → o ≡ Some t → (v : ℕ) × (u ≡ Some v) × (v ≤ t)
-stays None u h t e = let z : ◌≡◌ {A = ℕ} 0 1 = cc in absurd (omega arith)
-stays (Some s) None h t e = absurd h
-stays (Some s) (Some v) h t e = let z : s ≡ t = cc in (v, refl, omega arith)
+stays o u h t e = grind arith
 
 gains_some : (o u r : Option ℕ) (t v : ℕ) → o ≡ Some t → u ≡ Some v → v ≤ t → r ≡ Some (t - v) → Gains o u r
 gains_some o u r t v e k h g = subst (λ (x : Option ℕ). Gains x u r) (sym e) (v, k, h, g)

@@ -1,5 +1,6 @@
 -- The promise. Assumes nothing.
 use Rattle.std.proofs.Common.{◌≡◌, ℕ, ◌^◌, ◌≤◌, Bool, true, false, cond, ◌&&◌, leb, List, [], ◌∷◌, ◌++◌, length, get_or, take, is_some, Some, None, Option, sym, refl, ap, ◌∙◌, subst, arith, pow_mono}
+use Rattle.std.proofs.lemmas.Bool.Decides.{nat_tests}
 use Rattle.std.proofs.lemmas.Bool.{and_parts, leb-true, ltb-true, not-true, false≢true}
 use Rattle.domains.specs.Faults.{Refusal}
 use Rattle.shelf.specs.Picks.{Among}
@@ -41,7 +42,6 @@ use Rattle.runs.specs.Replies.{Reply, of_change, of_order}
 use Rattle.runs.specs.Replies.Reply.{not_allowed}
 use Rattle.runs.proofs.Living.{signals_of, others, taken_others, placed_signals}
 use Rattle.runs.proofs.Riding as R
-use Rattle.shelf.proofs.Options.{is_none}
 
 -- what holds of a book, with the signals that live
 pub record Good (m : Bank) (p : Packing) (s : Stands) (ss : List Signal) : Type 0 where
@@ -55,15 +55,14 @@ AllYes [] = Unit {0}
 AllYes (q ∷ qs) = (q.1 ≡ true) × AllYes qs
 
 yes_first : (t : Bool) (o : Option PlanFault) (f : PlanFault) → cond t o (Some f) ≡ None → (t ≡ true) × (o ≡ None)
-yes_first true o f e = (refl, e)
-yes_first false o f e = let z : ◌≡◌ {A = ℕ} 0 1 = cc in absurd (let no : ⊥ = omega arith in no)
+yes_first t o f e = grind arith
 
 all_yes : (qs : Questions) → first_no qs ≡ None → AllYes qs
 all_yes [] e = tt
 all_yes (q ∷ qs) e = let p = yes_first q.1 (first_no qs) q.0 e in (p.0, all_yes qs p.1)
 
 within : (low x high : ℕ) → (leb low x && leb x high) ≡ true → (low ≤ x) × (x ≤ high)
-within low x high e = let p = and_parts _ _ e in (leb-true _ _ p.0, leb-true _ _ p.1)
+within low x high e = grind (arith, nat_tests)
 
 module _ (m : Bank) (laws : Laws (in_time m)) (at_most : m.domains ≤ 4) (p : Packing) (ss : List Signal) where
   lawful : (s : Signal) → AllYes (enter_questions m.domains m.cost p s) → LawfulSignal s
@@ -76,7 +75,7 @@ module _ (m : Bank) (laws : Laws (in_time m)) (at_most : m.domains ≤ 4) (p : P
   may_take : (s : Signal) → Sound p → AllYes (enter_questions m.domains m.cost p s) → (c : Choice) → choice m.cost p s ≡ Some c → Placeable p s c.frame
   unfolding enter_questions
   may_take s h y c q =
-      let free = not_found s.name 0 p.signals (is_none (place_of s.name 0 p.signals) (not-true _ y.1.1.1.1.1.0)) in
+      let free = not_found s.name 0 p.signals (let no = not-true _ y.1.1.1.1.1.0 in grind arith) in
       choice_placeable m.cost p s c h (lawful s y) (ltb-true _ _ y.1.1.1.1.1.1.0) free q
 
   enter_chosen : (s : Signal) → Good m p nothing ss → AllYes (enter_questions m.domains m.cost p s) → (o : Option Choice) → choice m.cost p s ≡ o → Good m (chosen p s o) nothing (ss ++ (s ∷ []))
@@ -106,12 +105,12 @@ module _ (m : Bank) (laws : Laws (in_time m)) (at_most : m.domains ≤ 4) (p : P
 
     unrefused_lightest : (o : Option PlanFault) → first_no (enter_questions m.domains m.cost p s) ≡ o → of_change (unless_refused [] o) ≡ of_change (gives []) → Lightest m.cost p s (unless o (chosen p s (choice m.cost p s)) p)
     unrefused_lightest None e q = chosen_lightest (all_yes (enter_questions m.domains m.cost p s) e) (choice m.cost p s) refl
-    unrefused_lightest (Some f) e q = let z : ◌≡◌ {A = ℕ} 0 1 = cc in absurd (let no : ⊥ = omega arith in no)
+    unrefused_lightest (Some f) e q = absurd (grind arith)
 
     pub entered_lightest : (st : Stands) (b : Bool) → (on m p st b (Enter s)).reply ≡ of_change (gives []) → Lightest m.cost p s (on m p st b (Enter s)).after.packing
     unfolding entered
     entered_lightest st false q = unrefused_lightest (first_no (enter_questions m.domains m.cost p s)) refl q
-    entered_lightest st true q = let z : ◌≡◌ {A = ℕ} 0 1 = cc in absurd (let no : ⊥ = omega arith in no)
+    entered_lightest st true q = absurd (grind arith)
 
   withdraw_good : (name : ℕ) → Good m p nothing ss → (o : Option ℕ) → place_of name 0 p.signals ≡ o → Good m (withdrawn p name) nothing (after_call ss (Withdraw name) (of_change (withdraw_says p name)))
   withdraw_good name h None e =
@@ -161,7 +160,7 @@ module _ (m : Bank) (laws : Laws (in_time m)) (at_most : m.domains ≤ 4) (p : P
   order_iff (Some o) e = (λ r h. never r.0 r.1, λ n. absurd (n (has_order m laws p o e)))
     where
       never : (f : Refusal) → of_order (order_answers m p (Some o)) ≡ of_order (refuses f) → ⊥
-      never f q = let z : ◌≡◌ {A = ℕ} 0 1 = cc in absurd (let no : ⊥ = omega arith in no)
+      never f q = grind arith
 
   pub refused : (s : Stands) (b : Bool) → b ≡ true → Iff (Refuses 11 (on m p s b Order).reply) (HasOrder m (rows p) → ⊥)
   refused s true e = order_iff (picked_order m p) refl

@@ -2,7 +2,6 @@ pub mod Aparts
 pub mod Folds
 pub mod Maxima
 pub mod Numbering
-pub mod Options
 pub mod Parts
 pub mod Perms
 pub mod Solutions

@@ -1,5 +1,5 @@
 -- The largest of some numbers. Assumes nothing.
-use Rattle.std.proofs.Common.{◌≡◌, ℕ, zero, suc, ◌<◌, ◌≤◌, max, ap, ⊎_elim, le_refl, arith}
+use Rattle.std.proofs.Common.{◌≡◌, ℕ, zero, suc, ◌<◌, ◌≤◌, ⊎_elim, le_refl, arith}
 use Rattle.std.proofs.lemmas.Bool.{cases_lt}
 use Rattle.shelf.specs.Largest.{largest, Largest}
 
@@ -9,8 +9,7 @@ largest_le g (suc n) m h = omega (arith, h n (le_refl (suc n)), largest_le g n m
 
 pub le_largest : (g : ℕ → ℕ) (n q : ℕ) → q < n → g q ≤ largest g n
 le_largest g zero q h = absurd (omega arith)
-le_largest g (suc n) q h =
-    ⊎_elim {C = g q ≤ max (g n) (largest g n)} (λ l. omega (arith, le_largest g n q l)) (λ l. let e : q ≡ n = omega arith in omega (arith, ap g e)) (cases_lt q n)
+le_largest g (suc n) q h = grind (arith, le_largest g n q)
 
 reached : (g : ℕ → ℕ) (n : ℕ) → (q : ℕ) × (q < suc n) × (largest g (suc n) ≡ g q)
 reached g zero = (0, omega arith, omega arith)

@@ -4,7 +4,8 @@ use lib.Seq.{set-get_or}
 use Rattle.std.specs.List.{AllByRecursion}
 use Rattle.std.proofs.ByRecursion.{All-weaker, all_kept_by}
 use Rattle.std.proofs.lemmas.List.{at_drop_more}
-use Rattle.std.proofs.lemmas.Bool.{eq-eqb, ne_eqb}
+use Rattle.std.proofs.lemmas.Bool.{cond_both, eq-eqb, ne_eqb}
+use Rattle.std.proofs.lemmas.Bool.Decides.{nat_tests}
 use Rattle.shelf.specs.Apart.{Apart}
 use Rattle.shelf.specs.Numbers.{chosen, numbers, without}
 use Rattle.shelf.specs.Picks.{Pick}
@@ -27,20 +28,21 @@ pick_is {x} (there {y = y} {xs = xs} {r = r} p) a = without_there x y xs (λ e. 
 
 pub apart_kept : (q : ℕ → Bool) (xs : List ℕ) → Apart xs → Apart (filter q xs)
 apart_kept q [] a = tt
-apart_kept q (x ∷ xs) a = elim (q x) as (λ b. Apart (cond b (x ∷ filter q xs) (filter q xs))) [ true ↦ (all_kept_by q (λ y. y ≡ x → ⊥) xs a.0, apart_kept q xs a.1) | false ↦ apart_kept q xs a.1 ]
+apart_kept q (x ∷ xs) a =
+    cond_both (q x) _ _ Apart (λ _. (all_kept_by q (λ y. y ≡ x → ⊥) xs a.0, apart_kept q xs a.1)) (λ _. apart_kept q xs a.1)
 
 pub chosen_from : {P : Type 0} (test : P → Bool) (i : ℕ) (ps : List P) → AllByRecursion (λ y. i ≤ y) (chosen test i ps)
 chosen_from test i [] = tt
 chosen_from test i (p ∷ ps) =
     let h : AllByRecursion (λ y. i ≤ y) (chosen test (i + 1) ps) = All-weaker (λ y. i + 1 ≤ y) (λ y. i ≤ y) (λ y k. omega arith) (chosen test (i + 1) ps) (chosen_from test (i + 1) ps) in
-    elim (test p) as (λ b. AllByRecursion (λ y. i ≤ y) (cond b (i ∷ chosen test (i + 1) ps) (chosen test (i + 1) ps))) [ true ↦ (omega arith, h) | false ↦ h ]
+    cond_both (test p) _ _ (AllByRecursion (λ y. i ≤ y)) (λ _. (omega arith, h)) (λ _. h)
 
 pub chosen_apart : {P : Type 0} (test : P → Bool) (i : ℕ) (ps : List P) → Apart (chosen test i ps)
 chosen_apart test i [] = tt
 chosen_apart test i (p ∷ ps) =
     let h : AllByRecursion (λ y. y ≡ i → ⊥) (chosen test (i + 1) ps) = All-weaker (λ y. i + 1 ≤ y) (λ y. y ≡ i → ⊥) (λ y k e. omega arith) (chosen test (i + 1) ps) (chosen_from test (i + 1) ps) in
     let k = chosen_apart test (i + 1) ps in
-    elim (test p) as (λ b. Apart (cond b (i ∷ chosen test (i + 1) ps) (chosen test (i + 1) ps))) [ true ↦ (h, k) | false ↦ k ]
+    cond_both (test p) _ _ Apart (λ _. (h, k)) (λ _. k)
 
 pub length_numbers : {P : Type 0} (i : ℕ) (ps : List P) → length (numbers i ps) ≡ length ps
 length_numbers i [] = refl
@@ -55,9 +57,6 @@ map_numbers f d i (x ∷ xs) h =
 
 -- a loop over the table
 module _ {P : Type 0} (is : P → Bool) (ps : List P) (i : ℕ) (d : P) (l : i < length ps) where
-  pub chosen_skip : is (get_or ps i d) ≡ false → chosen is i (drop i ps) ≡ chosen is (i + 1) (drop (i + 1) ps)
-  chosen_skip e = at_drop_more (chosen is i) ps i d l ∙ simp e
-
   pub chosen_take : is (get_or ps i d) ≡ true → chosen is i (drop i ps) ≡ i ∷ chosen is (i + 1) (drop (i + 1) ps)
   chosen_take e = at_drop_more (chosen is i) ps i d l ∙ simp e
 
@@ -67,12 +66,10 @@ module _ {P : Type 0} (is : P → Bool) where
   after i x ps e = without_away x (chosen is (i + 1) ps) (All-weaker (λ y. i + 1 ≤ y) (λ y. y ≡ x → ⊥) (λ y k f. omega arith) (chosen is (i + 1) ps) (chosen_from is (i + 1) ps))
 
   without_cond : (x i : ℕ) (b : Bool) (r : List ℕ) → (i ≡ x → ⊥) → without x (cond b (i ∷ r) r) ≡ cond b (i ∷ without x r) (without x r)
-  without_cond x i true r n = without_there x i r n
-  without_cond x i false r n = refl
+  without_cond x i b r n = grind (arith, nat_tests)
 
   without_cond_here : (x i : ℕ) (b : Bool) (r : List ℕ) → i ≡ x → without x (cond b (i ∷ r) r) ≡ without x r
-  without_cond_here x i true r e = without_here x i r e
-  without_cond_here x i false r e = refl
+  without_cond_here x i b r e = grind (arith, nat_tests)
 
   -- taken out of the choice
   pub chosen_out : (i k : ℕ) (ps : List P) (v : P) → is v ≡ false → k < length ps → chosen is i (set ps k v) ≡ without (i + k) (chosen is i ps)
@@ -127,7 +124,7 @@ module _ {P : Type 0} (is : P → Bool) where
 
   pub chosen_most : (i : ℕ) (ps : List P) → length (chosen is i ps) ≤ length ps
   chosen_most i [] = omega arith
-  chosen_most i (p ∷ ps) = let h = chosen_most (i + 1) ps in elim (is p) as (λ b. length (cond b (i ∷ chosen is (i + 1) ps) (chosen is (i + 1) ps)) ≤ suc (length ps)) [ true ↦ omega arith | false ↦ omega arith ]
+  chosen_most i (p ∷ ps) = grind (arith, chosen_most (i + 1) ps)
 
 -- each element has a number
 pub number_in : {P : Type 0} (i n : ℕ) (ps : List P) → n < length ps → (r : List ℕ) × Pick (i + n) (numbers i ps) r

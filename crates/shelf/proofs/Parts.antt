@@ -1,5 +1,6 @@
 -- Lists with some elements taken out. Assumes nothing.
 use Rattle.std.proofs.Common.{◌≡◌, Bool, true, false, cond, List, [], ◌∷◌, filter, sym, refl, ap, ◌∙◌, subst}
+use Rattle.std.proofs.lemmas.Bool.{cond_both}
 use Rattle.shelf.specs.Picks.{Pick, Perm, Part}
 use Rattle.shelf.specs.Picks.Pick.{here, there}
 use Rattle.shelf.specs.Picks.Perm.{done, next}
@@ -16,7 +17,8 @@ module _ {X : Type 0} where
 
   pub part_kept : (p : X → Bool) (xs : List X) → Part xs (filter p xs)
   part_kept p [] = whole
-  part_kept p (x ∷ xs) = elim (p x) as (λ b. Part (x ∷ xs) (cond b (x ∷ filter p xs) (filter p xs))) [ true ↦ part_cons x (part_kept p xs) | false ↦ less (here refl) (part_kept p xs) ]
+  part_kept p (x ∷ xs) =
+      cond_both (p x) _ _ (Part (x ∷ xs)) (λ _. part_cons x (part_kept p xs)) (λ _. less (here refl) (part_kept p xs))
 
 module _ {X : Type 0} (q : X → Bool) where
   pub pick_kept_in : {x : X} {xs r : List X} → Pick x xs r → q x ≡ true → Pick x (filter q xs) (filter q r)

@@ -1,5 +1,5 @@
 -- What the order of a list does not change. Assumes nothing.
-use Rattle.std.proofs.Common.{◌≡◌, ℕ, suc, ◌+◌, min, max, Bool, true, false, ◌&&◌, ◌⊎◌, List, [], ◌∷◌, ◌++◌, map, reverse, length, sum_by, sym, refl, ap, ◌∙◌, subst, inl, inr, append-nil, arith}
+use Rattle.std.proofs.Common.{◌≡◌, ℕ, suc, ◌+◌, min, max, Bool, ◌&&◌, ◌⊎◌, List, [], ◌∷◌, ◌++◌, map, reverse, length, sum_by, sym, refl, ap, ◌∙◌, subst, inl, inr, append-nil, arith}
 use mathlib.Core.List.{reverse_aux, nil≢cons}
 use Rattle.std.specs.List.{AllByRecursion}
 use Rattle.std.proofs.lemmas.List.Sums.{sum_by-cons}
@@ -32,10 +32,6 @@ module _ {X : Type 0} where
   pub pick_middle : (x : X) (us ls : List X) → Pick x (us ++ (x ∷ ls)) (us ++ ls)
   pick_middle x [] ls = here refl
   pick_middle x (u ∷ us) ls = there (pick_middle x us ls)
-
-  pub pick_last : (x : X) (us : List X) → Pick x (us ++ (x ∷ [])) us
-  pick_last x [] = here refl
-  pick_last x (u ∷ us) = there (pick_last x us)
 
   pub pick_length : {x : X} {xs r : List X} → Pick x xs r → length xs ≡ suc (length r)
   pick_length (here e) = refl
@@ -166,11 +162,6 @@ module _ {X Y : Type 0} (fold : List X → Y) (add : X → Y → Y) (more : (x :
   perm_fold done = refl
   perm_fold (next {x = x} {ys = ys} p q) = pick_fold p ∙ ap (add x) (perm_fold q) ∙ sym (more x ys)
 
-and_swap : (a b c : Bool) → (a && (b && c)) ≡ (b && (a && c))
-and_swap true b c = refl
-and_swap false true c = refl
-and_swap false false c = refl
-
 module _ {X : Type 0} where
   pub perm_sum : (f : X → ℕ) {xs ys : List X} → Perm xs ys → sum_by f xs ≡ sum_by f ys
   perm_sum f p = perm_fold (sum_by f) (λ x n. f x + n) (sum_by-cons f) (λ x y n. omega arith) p
@@ -182,4 +173,4 @@ module _ {X : Type 0} where
   perm_most f p = perm_fold (most f) (λ x n. max (f x) n) (λ x xs. refl) (λ x y n. omega arith) p
 
   pub perm_every : (t : X → Bool) {xs ys : List X} → Perm xs ys → every t xs ≡ every t ys
-  perm_every t p = perm_fold (every t) (λ x b. t x && b) (λ x xs. refl) (λ x y b. and_swap (t x) (t y) b) p
+  perm_every t p = perm_fold (every t) (λ x b. t x && b) (λ x xs. refl) (λ x y b. grind arith) p

@@ -1,6 +1,6 @@
 -- The smallest number with a property, and the smallest solution of w = rule w: that it is the smallest, that there is
 -- but one, that a lower rule has a lower one, and that it lies below each point that the rule does not raise. Assumes nothing.
-use Rattle.std.proofs.Common.{◌≡◌, ℕ, zero, suc, ◌+◌, ◌-◌, ◌<◌, ◌≤◌, Bool, true, false, cond, eqb, Some, None, Decides, Option, sym, refl, ap, subst, ⊎_elim, le_trans, le_refl, arith}
+use Rattle.std.proofs.Common.{◌≡◌, ℕ, zero, suc, ◌+◌, ◌-◌, ◌<◌, ◌≤◌, Bool, true, false, cond, eqb, Some, None, Decides, Option, sym, refl, ⊎_elim, le_trans, le_refl, arith}
 use Rattle.std.proofs.lemmas.Bool.{cases_lt}
 use Rattle.std.proofs.lemmas.Bool.Decides.{Decides-eqb, not_from_Decides}
 use Rattle.shelf.specs.Smallest.{Smallest, first_of, smallest, solution}
@@ -8,19 +8,13 @@ use Rattle.shelf.specs.Times.{NoLater, AtMost}
 
 -- there is but one
 pub smallest_unique : (P : ℕ → Type 0) (low high : ℕ) (o u : Option ℕ) → Smallest P low high o → Smallest P low high u → o ≡ u
-smallest_unique P low high (Some w) (Some v) h k =
-    ap Some (⊎_elim {C = w ≡ v} (λ l. absurd (k.3 w h.0 l h.2)) (λ l. ⊎_elim {C = w ≡ v} (λ m. absurd (h.3 v k.0 m k.2)) (λ m. omega arith) (cases_lt v w)) (cases_lt w v))
-smallest_unique P low high (Some w) None h k = absurd (k w h.0 h.1 h.2)
-smallest_unique P low high None (Some v) h k = absurd (h v k.0 k.1 k.2)
-smallest_unique P low high None None h k = refl
+smallest_unique P low high o u h k = grind arith
 
 -- the definition by a test is the smallest
 module _ (P : ℕ → Type 0) (t : ℕ → Bool) (decides : (w : ℕ) → Decides (t w) (P w)) where
   later : (low high : ℕ) (o : Option ℕ) → (P low → ⊥) → Smallest P (suc low) high o → Smallest P low high o
-  later low high (Some w) no-low h =
-      (omega arith, h.1, h.2, λ v a b p. ⊎_elim {C = ⊥} (λ l. h.3 v l b p) (λ l. let eq : v ≡ low = omega arith in no-low (subst P eq p)) (cases_lt low v))
-  later low high None no-low h =
-      λ v a b p. ⊎_elim {C = ⊥} (λ l. h v l b p) (λ l. let eq : v ≡ low = omega arith in no-low (subst P eq p)) (cases_lt low v)
+  later low high (Some w) no-low h = (omega arith, h.1, h.2, λ v a b p. grind (arith, h.3 v))
+  later low high None no-low h = λ v a b p. grind (arith, h v)
 
   here : (low high : ℕ) (b : Bool) → t low ≡ b → (o : Option ℕ) → low ≤ high → Smallest P (suc low) high o → Smallest P low high (cond b (Some low) o)
   here low high true e o l h = (le_refl low, l, (decides low).0 e, λ v a b p. absurd (omega arith))
@@ -54,7 +48,7 @@ falls_to rule low up start (suc n) w a b c =
 
 -- the smallest is no later than any solution
 below_any : (rule : ℕ → ℕ) (low high v : ℕ) (o : Option ℕ) → low ≤ v → v ≤ high → v ≡ rule v → Smallest (λ w. w ≡ rule w) low high o → (w : ℕ) → v ≤ w → NoLater (Some w) o
-below_any rule low high v (Some u) a b p s w h = ⊎_elim {C = u ≤ w} (λ l. absurd (s.3 v a l p)) (λ l. le_trans l h) (cases_lt v u)
+below_any rule low high v (Some u) a b p s w h = grind (arith, s.3 v a)
 below_any rule low high v None a b p s w h = s v a b p
 
 by_solutions : (rule lower : ℕ → ℕ) (low high : ℕ) → ((v w : ℕ) → v ≤ w → lower v ≤ lower w) → low ≤ lower low → ((w : ℕ) → low ≤ w → lower w ≤ rule w) → (o u : Option ℕ) → Smallest (λ w. w ≡ rule w) low high o → Smallest (λ w. w ≡ lower w) low high u → NoLater o u
@@ -69,23 +63,16 @@ pub solution_no_later : (rule lower : ℕ → ℕ) (low high : ℕ) → low ≤ 
 solution_no_later rule lower low high h up start le =
     by_solutions rule lower low high up start le (solution rule low high) (solution lower low high) (solution_is rule low high h) (solution_is lower low high h)
 
-at_most_by : (P : ℕ → Type 0) (low high : ℕ) (o : Option ℕ) → Smallest P low high o → AtMost high o
-at_most_by P low high (Some w) s = s.1
-at_most_by P low high None s = tt
-
 pub solution_at_most : (rule : ℕ → ℕ) (low high : ℕ) → low ≤ high → AtMost high (solution rule low high)
 solution_at_most rule low high h =
-    at_most_by (λ w. w ≡ rule w) low high (solution rule low high) (solution_is rule low high h)
-
-some_below : (w : ℕ) (o : Option ℕ) → NoLater (Some w) o → (v : ℕ) × (o ≡ Some v) × (v ≤ w)
-some_below w (Some v) h = (v, refl, h)
-some_below w None h = absurd h
+    let s = solution_is rule low high h in grind arith
 
 -- below a point that the rule does not raise there is one
 pub solution_below : (rule : ℕ → ℕ) (low high w : ℕ) → low ≤ high → ((v w : ℕ) → v ≤ w → rule v ≤ rule w) → low ≤ rule low → low ≤ w → w ≤ high → rule w ≤ w → (v : ℕ) × (solution rule low high ≡ Some v) × (v ≤ w)
 solution_below rule low high w h up start a b c =
     let v = falls_to rule low up start w w (le_refl w) a c in
-    some_below w (solution rule low high) (below_any rule low high v.0 (solution rule low high) v.1 (le_trans v.2 b) v.3 (solution_is rule low high h) w v.2)
+    let s = below_any rule low high v.0 (solution rule low high) v.1 (le_trans v.2 b) v.3 (solution_is rule low high h) w v.2 in
+    grind arith
 
 -- worked by hand: so many turns of the rule from low
 abbrev pub climb : (ℕ → ℕ) → ℕ → ℕ → ℕ

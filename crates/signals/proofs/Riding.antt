@@ -1,10 +1,11 @@
 -- The signals of a frame: one more, one out, none. Assumes nothing.
-use Rattle.std.proofs.Common.{◌≡◌, ℕ, suc, ◌+◌, ◌<◌, true, false, cond, eqb, List, [], ◌∷◌, ◌++◌, map, length, get_or, take, drop, filter, sym, refl, ap, ◌∙◌, subst, ⊎_elim, drop-cons}
+use Rattle.std.proofs.Common.{◌≡◌, ℕ, suc, ◌+◌, ◌<◌, true, false, eqb, List, [], ◌∷◌, ◌++◌, map, length, get_or, take, drop, filter, sym, refl, ap, ◌∙◌, subst, ⊎_elim, drop-cons, arith}
+use Rattle.std.proofs.lemmas.Bool.Decides.{nat_tests}
 use Rattle.std.specs.List.{remove, AllByRecursion}
 use Rattle.std.proofs.lemmas.List.Elements.{filter-append}
 use Rattle.std.proofs.ByRecursion.{All-weaker}
 use Rattle.std.proofs.lemmas.List.{map-append, append-nil, take-append-drop, take_more}
-use Rattle.std.proofs.lemmas.Bool.{eq-eqb, ne_eqb, eqb-true, eqb-false, cases_Bool, or_left, or_right, or_parts, or_from, or_cases, both_ways}
+use Rattle.std.proofs.lemmas.Bool.{eq-eqb, or_left, or_right, cases_eq}
 use Rattle.signals.specs.declared.signal.Signal.{Signal}
 use Rattle.signals.specs.declared.signal.Entry.{Entry}
 use Rattle.signals.specs.Names.{no_entry}
@@ -22,13 +23,11 @@ module _ (n : ℕ) where
   -- an entry in front
   pub rider : (e : Entry) (es : List Entry) → e.frame ≡ n → riders n (e ∷ es) ≡ e.signal ∷ riders n es
   unfolding riders
-  rider e es q =
-      ap (λ t. map (λ f. f.signal) (cond t (e ∷ filter (λ f. eqb f.frame n) es) (filter (λ f. eqb f.frame n) es))) (eq-eqb e.frame n q)
+  rider e es q = grind (arith, nat_tests)
 
   pub no_rider : (e : Entry) (es : List Entry) → (e.frame ≡ n → ⊥) → riders n (e ∷ es) ≡ riders n es
   unfolding riders
-  no_rider e es q =
-      ap (λ t. map (λ f. f.signal) (cond t (e ∷ filter (λ f. eqb f.frame n) es) (filter (λ f. eqb f.frame n) es))) (ne_eqb e.frame n q)
+  no_rider e es q = grind (arith, nat_tests)
 
   pub riders_nil : riders n [] ≡ []
   unfolding riders
@@ -61,17 +60,17 @@ module _ (n : ℕ) where
   pub riders_all : (P : Signal → Type 0) (es : List Entry) → AllByRecursion (λ e. e.frame ≡ n → P e.signal) es → AllByRecursion P (riders n es)
   riders_all P [] h = subst (AllByRecursion P) (sym riders_nil) tt
   riders_all P (e ∷ es) h = ⊎_elim {C = AllByRecursion P (riders n (e ∷ es))}
-      (λ t. subst (AllByRecursion P) (sym (rider e es (eqb-true _ _ t))) (h.0 (eqb-true _ _ t), riders_all P es h.1))
-      (λ t. subst (AllByRecursion P) (sym (no_rider e es (eqb-false _ _ t))) (riders_all P es h.1))
-      (cases_Bool (eqb e.frame n))
+      (λ q. subst (AllByRecursion P) (sym (rider e es q)) (h.0 q, riders_all P es h.1))
+      (λ q. subst (AllByRecursion P) (sym (no_rider e es q)) (riders_all P es h.1))
+      (cases_eq e.frame n)
 
   -- the first of them, where there is one
   pub riders_some : (es : List Entry) → any_in n es ≡ true → (s : Signal) × (ss : List Signal) × (riders n es ≡ s ∷ ss)
-  riders_some [] t = absurd (both_ways false refl t)
+  riders_some [] t = grind arith
   riders_some (e ∷ es) t = ⊎_elim {C = (s : Signal) × (ss : List Signal) × (riders n (e ∷ es) ≡ s ∷ ss)}
-      (λ y. (e.signal, riders n es, rider e es (eqb-true _ _ y)))
-      (λ y. let r = riders_some es (⊎_elim {C = any_in n es ≡ true} (λ z. absurd (both_ways _ y z)) (λ z. z) (or_cases (eqb e.frame n) (any_in n es) t)) in (r.0, r.1, no_rider e es (eqb-false _ _ y) ∙ r.2))
-      (cases_Bool (eqb e.frame n))
+      (λ q. (e.signal, riders n es, rider e es q))
+      (λ q. let r = riders_some es (grind (arith, nat_tests)) in (r.0, r.1, no_rider e es q ∙ r.2))
+      (cases_eq e.frame n)
 
   -- one out
   module _ (es : List Entry) (i : ℕ) (within : i < length es) where
@@ -94,9 +93,8 @@ any_own (e ∷ es) =
 
 pub none_in : (n : ℕ) (es : List Entry) → any_in n es ≡ false → AllByRecursion (λ e. e.frame ≡ n → ⊥) es
 none_in n [] t = tt
-none_in n (e ∷ es) t =
-    let p = or_parts (eqb e.frame n) (any_in n es) t in (eqb-false _ _ p.0, none_in n es p.1)
+none_in n (e ∷ es) t = (grind (arith, nat_tests), none_in n es (grind arith))
 
 pub none_any : (n : ℕ) (es : List Entry) → AllByRecursion (λ e. e.frame ≡ n → ⊥) es → any_in n es ≡ false
 none_any n [] h = refl
-none_any n (e ∷ es) h = or_from _ _ (ne_eqb _ _ h.0) (none_any n es h.1)
+none_any n (e ∷ es) h = grind (arith, nat_tests, h.0, none_any n es h.1)

@@ -1,12 +1,12 @@
 -- The row that some signals give: within the limits, and in words. Assumes nothing.
 use Rattle.std.proofs.Common.{◌≡◌, ℕ, suc, ◌+◌, ◌/◌, ◌%◌, ◌^◌, ◌<◌, ◌≤◌, true, ◌⊎◌, List, [], ◌∷◌, ◌++◌, length, get_or, take, drop, Decides, fold, sym, refl, ap, ◌∙◌, subst, inl, inr, ⊎_elim, arith}
 use native.Mathlib.Nat.{zero-div}
-use lib.Bits.{bit_or, or_step, or_add_and, or_lt, or_comm}
+use lib.Bits.{bit_or, or_step, or_lt, or_comm}
 use Rattle.std.specs.List.{AllByRecursion}
-use Rattle.std.proofs.lemmas.Nat.{or_shr, and_le_l}
+use Rattle.std.proofs.lemmas.Nat.{or_shr, le_or_l, le_or_r}
 use Rattle.std.proofs.ByRecursion.{All-weaker}
 use Rattle.std.proofs.lemmas.List.Sums.{fold_push, sum_by_push, sum_by-cons, sum_by-append}
-use Rattle.std.proofs.lemmas.Bool.{eqb-true, eq-eqb, cases_eq}
+use Rattle.std.proofs.lemmas.Bool.{eqb-true, eq-eqb}
 use Rattle.std.proofs.lemmas.Bool.Decides.{nat_tests}
 use Rattle.frames.specs.declared.row.Row.{Row}
 use Rattle.timing.specs.Carried.{in_set}
@@ -25,7 +25,7 @@ use Rattle.signals.proofs.Riding.{riders_more, riders_same, riders_split, rider}
 
 pub decides_signal : (s : Signal) → Decides (lawful_signal s) (LawfulSignal s)
 decides_signal s = (
-  (λ e. record { from = grind (arith, nat_tests); sized = (grind (arith, nat_tests), grind (arith, nat_tests)); paced = (grind (arith, nat_tests), grind (arith, nat_tests)); timely = (grind (arith, nat_tests), grind (arith, nat_tests)); named = (grind (arith, nat_tests), grind (arith, nat_tests)) }),
+  (λ e. record { from = grind (arith, nat_tests); sized = grind (arith, nat_tests); paced = grind (arith, nat_tests); timely = grind (arith, nat_tests); named = grind (arith, nat_tests) }),
   (λ h. grind (arith, nat_tests)),
 )
 
@@ -63,15 +63,9 @@ unfolding row_by
 row_sender q s ss h = senders q s.sender ss h.0 h.1
 
 -- unions
-or_ge : (a b : ℕ) → b ≤ bit_or a b
-or_ge a b = omega (arith, or_add_and a b, and_le_l a b)
-
-or_le : (a b : ℕ) → a ≤ bit_or a b
-or_le a b = omega (arith, or_ge b a, or_comm a b)
-
 union_ge : (d : ℕ) (ss : List Signal) → d ≤ fold (λ m s. bit_or m s.set) d ss
 union_ge d [] = omega arith
-union_ge d (s ∷ ss) = omega (arith, or_le d s.set, union_ge (bit_or d s.set) ss)
+union_ge d (s ∷ ss) = omega (arith, le_or_l d s.set, union_ge (bit_or d s.set) ss)
 
 union_le : (d : ℕ) (ss : List Signal) → d ≤ 15 → AllByRecursion (λ s. s.set ≤ 15) ss → fold (λ m s. bit_or m s.set) d ss ≤ 15
 union_le d [] h a = h
@@ -83,7 +77,7 @@ half_or : (a b : ℕ) → a % 2 ≡ 1 → bit_or a b % 2 ≡ 1
 half_or a b h = omega (arith, or_step a b)
 
 or_half : (a b : ℕ) → bit_or a b % 2 ≡ 1 → (a % 2 ≡ 1) ⊎ (b % 2 ≡ 1)
-or_half a b h = ⊎_elim {C = (a % 2 ≡ 1) ⊎ (b % 2 ≡ 1)} inl (λ n. inr (omega (arith, or_step a b))) (cases_eq (a % 2) 1)
+or_half a b h = grind (arith, or_step a b)
 
 pub in_left : (k a b : ℕ) → in_set k a ≡ true → in_set k (bit_or a b) ≡ true
 in_left k a b h = eq-eqb _ _ (ap (λ n. n % 2) (or_shr a b k) ∙ half_or (a / 2 ^ k) (b / 2 ^ k) (eqb-true _ _ h))
@@ -126,7 +120,7 @@ module _ (s : Signal) (ss : List Signal) (h : AllByRecursion LawfulSignal (s ∷
     filled = (omega (arith, fill_cons s ss, h.0.sized.0), most);
     paced = (le_least (λ t. t.period) 1000000 longest (s ∷ ss) (omega arith) (each (λ t. 1000000 ≤ t.period) (λ t l. l.paced.0)), least_le (λ t. t.period) longest (s ∷ ss));
     timely = (le_least (λ t. t.deadline) 1 longest (s ∷ ss) (omega arith) (each (λ t. 1 ≤ t.deadline) (λ t l. l.timely.0)), least_below (λ t. t.deadline) (λ t. t.period) longest (s ∷ ss) (each (λ t. t.deadline ≤ t.period) (λ t l. l.timely.1)));
-    carried = (omega (arith, h.0.named.0, or_ge 0 s.set, union_ge (bit_or 0 s.set) ss), union_le 0 (s ∷ ss) (omega arith) (each (λ t. t.set ≤ 15) (λ t l. l.named.1)));
+    carried = (omega (arith, h.0.named.0, le_or_r 0 s.set, union_ge (bit_or 0 s.set) ss), union_le 0 (s ∷ ss) (omega arith) (each (λ t. t.set ≤ 15) (λ t l. l.named.1)));
   }
 
   pub row_gathered : (q : ℕ) → AllByRecursion (λ t. t.sender ≡ q) (s ∷ ss) → Gathered (s ∷ ss) (row_by (s ∷ ss))

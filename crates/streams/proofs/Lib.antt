@@ -1,2 +1,1 @@
 pub mod Demanding
-pub mod Fitting

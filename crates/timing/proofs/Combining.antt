@@ -1,6 +1,6 @@
 -- The duties of the domains give the laws of being in time. Assumes nothing.
-use Rattle.std.proofs.Common.{◌≡◌, ℕ, Bool, true, false, cond, not, ◌&&◌, ◌||◌, List, [], ◌∷◌, Some, None, filter, Option, refl, ap, arith}
-use Rattle.std.proofs.lemmas.Bool.{leb-true, le-leb, and_parts, and_from, false≢true}
+use Rattle.std.proofs.Common.{◌≡◌, ℕ, Bool, true, false, cond, not, ◌&&◌, ◌||◌, List, [], ◌∷◌, filter, Option, refl, ap, arith}
+use Rattle.std.proofs.lemmas.Bool.Decides.{nat_tests}
 use Rattle.frames.specs.declared.row.Row.{Row}
 use Rattle.timing.specs.Carried.{carried}
 use Rattle.shelf.specs.Folds.{every}
@@ -14,13 +14,10 @@ use Rattle.timing.specs.Everywhere.{in_domain, four, everywhere}
 use Rattle.timing.specs.Laws.{Laws}
 
 no_later : (r s : Option ℕ) (d : ℕ) → NoLater r s → timely r d ≡ true → timely s d ≡ true
-no_later None s d n e = absurd (false≢true e)
-no_later (Some r) None d n e = absurd n
-no_later (Some r) (Some s) d n e = le-leb s d (omega (arith, leb-true r d e))
+no_later r s d n e = grind (arith, nat_tests)
 
 or_map : (a b c : Bool) → (b ≡ true → c ≡ true) → (a || b) ≡ true → (a || c) ≡ true
-or_map true b c f e = refl
-or_map false b c f e = f e
+or_map a b c f e = grind arith
 
 module _ {answer : Row → List Row → List Row → Option ℕ} (replies : ReplyLaws answer) (carries : Row → Bool) where
   pub laws_domain : Laws (λ f us ls. not (carries f) || timely (answer f (filter carries us) (filter carries ls)) f.deadline)
@@ -51,7 +48,7 @@ module _ {answer : Row → List Row → List Row → Option ℕ} (replies : Repl
   }
 
 and_map : (a b c d : Bool) → (a ≡ true → c ≡ true) → (b ≡ true → d ≡ true) → (a && b) ≡ true → (c && d) ≡ true
-and_map a b c d f g e = let h = and_parts a b e in and_from c d (f h.0) (g h.1)
+and_map a b c d f g e = grind arith
 
 -- each of some tests
 abbrev each : {F : Type 0} → (ℕ → F → List F → List F → Bool) → List ℕ → F → List F → List F → Bool

@@ -1,5 +1,6 @@
 -- A table of places for frames in order of priority tells of the frames before and after. Assumes nothing.
-use Rattle.std.proofs.Common.{◌≡◌, ℕ, zero, suc, ◌+◌, ◌<◌, ◌≤◌, Bool, true, false, cond, ◌&&◌, eqb, ltb, leb, List, [], ◌∷◌, ◌++◌, length, get_or, take, drop, None, filter, Option, sym, refl, ap, ◌∙◌, ap₂, arith}
+use Rattle.std.proofs.Common.{◌≡◌, ℕ, zero, suc, ◌+◌, ◌<◌, ◌≤◌, Bool, true, false, cond, ◌&&◌, ltb, leb, List, [], ◌∷◌, ◌++◌, length, get_or, take, drop, None, filter, Option, sym, refl, ap, ◌∙◌, ap₂, arith}
+use Rattle.std.proofs.lemmas.Grind.{common_steps}
 use Rattle.std.proofs.lemmas.List.{get_or_at, take_at, length-append}
 use Rattle.std.proofs.lemmas.Bool.{cond-true, cond-false, and_from, and_left, and_right, le-leb, lt-leb, lt-ltb, le-ltb}
 use Rattle.std.proofs.lemmas.Bool.Decides.{nat_tests}
@@ -40,38 +41,16 @@ after t (x ∷ xs) zero h =
 after t (x ∷ xs) (suc f) h =
     cond-false (t 0) _ _ (h 0 (omega arith) ∙ le-ltb (suc f) 0 (omega arith)) ∙ after (λ i. t (suc i)) xs f (λ i l. h (suc i) (omega arith) ∙ ltb_suc f i)
 
--- at one number, by how it lies to f
-above_one : (l b : Bool) → (b ≡ true → l ≡ false) → same (cond b Absent (cond l Above Below)) Above ≡ l
-above_one true true h = sym (h refl)
-above_one true false h = refl
-above_one false true h = refl
-above_one false false h = refl
-
-below_one : (l b : Bool) → same (cond b Absent (cond l Above Below)) Below ≡ cond b false (cond l false true)
-below_one true true = refl
-below_one true false = refl
-below_one false true = refl
-below_one false false = refl
-
-later : (i f : ℕ) → cond (eqb i f) false (cond (ltb i f) false true) ≡ ltb f i
-later i f = grind (arith, nat_tests)
-
-equal_not_less : (i f : ℕ) → eqb i f ≡ true → ltb i f ≡ false
-equal_not_less i f e = grind (arith, nat_tests)
-
 module _ (rows : List Row) (places : List Place) (f : ℕ) (long : length places ≡ length rows) (ranks : (j : ℕ) → j < length rows → get_or places j Absent ≡ cond (ltb j f) Above Below) where
-  stands : (j : ℕ) → j < length rows → stance places f j ≡ cond (eqb j f) Absent (cond (ltb j f) Above Below)
-  stands j l = ap (λ q. cond (eqb j f) Absent q) (ranks j l)
-
   ranked_above : rows_above rows places f ≡ take f rows
   unfolding standing
   ranked_above =
-      sym (standing_above rows places f long) ∙ before (λ i. same (stance places f i) Above) rows f (λ i l. ap (λ q. same q Above) (stands i l) ∙ above_one (ltb i f) (eqb i f) (equal_not_less i f))
+      sym (standing_above rows places f long) ∙ before (λ i. same (stance places f i) Above) rows f (λ i l. let rank = ranks i l in grind (arith, nat_tests))
 
   ranked_below : rows_below rows places f ≡ drop (suc f) rows
   unfolding standing
   ranked_below =
-      sym (standing_below rows places f long) ∙ after (λ i. same (stance places f i) Below) rows f (λ i l. ap (λ q. same q Below) (stands i l) ∙ below_one (ltb i f) (eqb i f) ∙ later i f)
+      sym (standing_below rows places f long) ∙ after (λ i. same (stance places f i) Below) rows f (λ i l. let rank = ranks i l in grind (arith, nat_tests))
 
   pub ranked_response : (response : ℕ → Row → List Row → List Row → Option ℕ) (k : ℕ) → length rows ≤ 96 → f < length rows → carried k (get_or rows f no_row) ≡ true → response_in response k (row_at rows f) (rows_above rows places f) (rows_below rows places f) ≡ response_at response k rows f
   unfolding response_at
@@ -103,12 +82,8 @@ response_between response k us f ls few c =
     let rows = us ++ (f ∷ ls) in
     let is : get_or rows (length us) no_row ≡ f = get_or_at us f ls no_row (length us) refl in
     let long : length rows ≡ length us + suc (length ls) = length-append us (f ∷ ls) in
-    let after : drop (suc (length us)) rows ≡ ls = drop_past us f ls in
+    let after : drop (suc (length us)) rows ≡ ls = grind (arith, common_steps) in
     cond-true _ _ _ (and_from _ _ (le-leb _ _ few) (lt-ltb _ _ (omega arith)))
     ∙ cond-true _ _ _ (ap (carried k) is ∙ c)
     ∙ ap (λ r. response_in response k r (take (length us) rows) (drop (suc (length us)) rows)) is
     ∙ ap₂ (λ a b. response_in response k f a b) (take_at us (f ∷ ls) (length us) refl) after
-  where
-    drop_past : (us : List Row) (f : Row) (ls : List Row) → drop (suc (length us)) (us ++ (f ∷ ls)) ≡ ls
-    drop_past [] f ls = refl
-    drop_past (u ∷ us) f ls = drop_past us f ls

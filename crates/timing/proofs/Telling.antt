@@ -1,5 +1,5 @@
 -- The table that one domain is told, and what it is asked by it. Assumes nothing.
-use Rattle.std.proofs.Common.{◌≡◌, ℕ, suc, ◌+◌, ◌<◌, ◌≤◌, Bool, true, false, cond, not, ◌&&◌, eqb, leb, ltb, List, [], ◌∷◌, map, length, get_or, take, filter, None, Option, sym, refl, ap, ◌∙◌, ap₂, add-zero, arith, length-take, get_or-take}
+use Rattle.std.proofs.Common.{◌≡◌, ℕ, suc, ◌+◌, ◌<◌, ◌≤◌, Bool, false, cond, not, ◌&&◌, eqb, leb, ltb, List, [], ◌∷◌, map, length, get_or, take, filter, None, Option, sym, refl, ap, ◌∙◌, ap₂, add-zero, arith, length-take, get_or-take}
 use Rattle.std.proofs.lemmas.Bool.{le-leb, lt-ltb}
 use Rattle.frames.specs.declared.row.Row.{Row}
 use Rattle.timing.specs.Carried.{carried}
@@ -14,10 +14,6 @@ abbrev pub AtTold : ℕ → List Row → List Place → List Place → ℕ → T
 AtTold k rows ps out j = get_or out j Above ≡ cond (carried k (row_at rows j)) (get_or ps j Above) Absent
 
 -- the numbers chosen in the masked table
-one_told : (is : Place → Bool) → is Absent ≡ false → (b : Bool) (p y : Place) (q : ℕ → Bool) (i : ℕ) (r : List ℕ) → q i ≡ b → y ≡ cond b p Absent → cond (is y) (i ∷ filter q r) (filter q r) ≡ filter q (cond (is p) (i ∷ r) r)
-one_told is o true p y q i r e f = rw f (elim (is p) as (λ c. cond c (i ∷ filter q r) (filter q r) ≡ filter q (cond c (i ∷ r) r)) [ true ↦ simp e | false ↦ refl ])
-one_told is o false p y q i r e f = rw (f, o) (elim (is p) as (λ c. filter q r ≡ filter q (cond c (i ∷ r) r)) [ true ↦ simp e | false ↦ refl ])
-
 chosen_told : (is : Place → Bool) → is Absent ≡ false → (q : ℕ → Bool) (i : ℕ) (ps ys : List Place) → length ys ≡ length ps → ((j : ℕ) → j < length ps → get_or ys j Above ≡ cond (q (i + j)) (get_or ps j Above) Absent) → chosen is i ys ≡ filter q (chosen is i ps)
 chosen_told is o q i [] [] n h = refl
 chosen_told is o q i [] (y ∷ ys) n h = absurd (omega arith)
@@ -25,21 +21,15 @@ chosen_told is o q i (p ∷ ps) [] n h = absurd (omega arith)
 chosen_told is o q i (p ∷ ps) (y ∷ ys) n h =
     let ih = chosen_told is o q (i + 1) ps ys (omega arith) (λ j m. let e : i + suc j ≡ i + 1 + j = omega arith in h (suc j) (omega arith) ∙ ap (λ x. cond (q x) (get_or ps j Above) Absent) e) in
     let f : y ≡ cond (q i) p Absent = h 0 (omega arith) ∙ ap (λ x. cond (q x) p Absent) (add-zero i) in
-    ap (λ r. cond (is y) (i ∷ r) r) ih ∙ one_told is o (q i) p y q i (chosen is (i + 1) ps) refl f
+    grind (arith, ih)
 
 kept_comm : {X : Type 0} (p q : X → Bool) (xs : List X) → filter p (filter q xs) ≡ filter q (filter p xs)
 kept_comm p q [] = refl
-kept_comm p q (x ∷ xs) = go (p x) (q x) refl refl (kept_comm p q xs)
-  where
-    go : (b c : Bool) → p x ≡ b → q x ≡ c → filter p (filter q xs) ≡ filter q (filter p xs) → filter p (cond c (x ∷ filter q xs) (filter q xs)) ≡ filter q (cond b (x ∷ filter p xs) (filter p xs))
-    go true true e f ih = simp (e, f) (ap (λ l. x ∷ l) ih)
-    go true false e f ih = simp f ih
-    go false true e f ih = simp e ih
-    go false false e f ih = ih
+kept_comm p q (x ∷ xs) = grind (arith, kept_comm p q xs)
 
 map_kept : {X Y : Type 0} (f : X → Y) (c : Y → Bool) (xs : List X) → map f (filter (λ j. c (f j)) xs) ≡ filter c (map f xs)
 map_kept f c [] = refl
-map_kept f c (x ∷ xs) = elim (c (f x)) as (λ b. map f (cond b (x ∷ filter (λ j. c (f j)) xs) (filter (λ j. c (f j)) xs)) ≡ cond b (f x ∷ filter c (map f xs)) (filter c (map f xs))) [ true ↦ ap (λ l. f x ∷ l) (map_kept f c xs) | false ↦ map_kept f c xs ]
+map_kept f c (x ∷ xs) = grind (arith, map_kept f c xs)
 
 -- what the domain is told
 pub told_is : (is : Place → Bool) → is Absent ≡ false → (k : ℕ) (rows : List Row) (ps ys : List Place) (f : ℕ) → length ys ≡ length ps → ((j : ℕ) → j < length ps → AtTold k rows ps ys j)
@@ -50,13 +40,6 @@ told_is is o k rows ps ys f n h =
     ap (λ l. map (row_at rows) (without f l)) a ∙ ap (map (row_at rows)) (kept_comm (λ j. not (eqb j f)) q (chosen is 0 ps)) ∙ map_kept (row_at rows) (carried k) (without f (chosen is 0 ps))
 
 -- the rows that stand at a place, by number
-head_is : (b c : Bool) (get : ℕ → Row) (x : Row) (i f : ℕ) (t : Bool) (r : List ℕ) → eqb i f ≡ c → t ≡ cond c false b → get i ≡ x
-    → cond t (x ∷ map get (without f r)) (map get (without f r)) ≡ map get (without f (cond b (i ∷ r) r))
-head_is true true get x i f t r e h g = simp (e, h)
-head_is true false get x i f t r e h g = simp (e, h) (ap (λ y. y ∷ map get (without f r)) (sym g))
-head_is false true get x i f t r e h g = simp h
-head_is false false get x i f t r e h g = simp h
-
 picked_chosen : (is : Place → Bool) (get : ℕ → Row) (f i : ℕ) (t : ℕ → Bool) (xs : List Row) (ps : List Place) → length ps ≡ length xs
     → ((j : ℕ) → j < length xs → t j ≡ cond (eqb (i + j) f) false (is (get_or ps j Absent))) → ((j : ℕ) → j < length xs → get (i + j) ≡ get_or xs j no_row)
     → picked t xs ≡ map get (without f (chosen is i ps))
@@ -67,28 +50,18 @@ picked_chosen is get f i t (x ∷ xs) (p ∷ ps) n h g =
     let ih = picked_chosen is get f (i + 1) (λ j. t (suc j)) xs ps (omega arith)
     (λ j l. let e : i + suc j ≡ i + 1 + j = omega arith in h (suc j) (omega arith) ∙ ap (λ k. cond (eqb k f) false (is (get_or ps j Absent))) e)
     (λ j l. let e : i + 1 + j ≡ i + suc j = omega arith in ap get e ∙ g (suc j) (omega arith)) in
-    ap (λ l. cond (t 0) (x ∷ l) l) ih ∙ head_is (is p) (eqb i f) get x i f (t 0) (chosen is (i + 1) ps) refl (h 0 (omega arith) ∙ ap (λ k. cond (eqb k f) false (is p)) (add-zero i)) (ap get (sym (add-zero i)) ∙ g 0 (omega arith))
-
-above_same : (b : Bool) (q : Place) → same (cond b Absent q) Above ≡ cond b false (is_above q)
-above_same true q = refl
-above_same false Above = refl
-above_same false Below = refl
-above_same false Absent = refl
-
-below_same : (b : Bool) (q : Place) → same (cond b Absent q) Below ≡ cond b false (is_below q)
-below_same true q = refl
-below_same false Above = refl
-below_same false Below = refl
-below_same false Absent = refl
+    let test = h 0 (omega arith) in
+    let row = g 0 (omega arith) in
+    grind (arith, ih)
 
 module _ (rows : List Row) (ps : List Place) (f : ℕ) (long : length ps ≡ length rows) where
   pub standing_above : standing Above rows ps f ≡ rows_above rows ps f
   unfolding standing
-  standing_above = picked_chosen is_above (row_at rows) f 0 (λ i. same (stance ps f i) Above) rows ps long (λ j l. let e : j ≡ 0 + j = omega arith in above_same (eqb j f) (get_or ps j Absent) ∙ ap (λ k. cond (eqb k f) false (is_above (get_or ps j Absent))) e) (λ j l. let e : 0 + j ≡ j = omega arith in ap (row_at rows) e)
+  standing_above = picked_chosen is_above (row_at rows) f 0 (λ i. same (stance ps f i) Above) rows ps long (λ j l. grind arith) (λ j l. grind arith)
 
   pub standing_below : standing Below rows ps f ≡ rows_below rows ps f
   unfolding standing
-  standing_below = picked_chosen is_below (row_at rows) f 0 (λ i. same (stance ps f i) Below) rows ps long (λ j l. let e : j ≡ 0 + j = omega arith in below_same (eqb j f) (get_or ps j Absent) ∙ ap (λ k. cond (eqb k f) false (is_below (get_or ps j Absent))) e) (λ j l. let e : 0 + j ≡ j = omega arith in ap (row_at rows) e)
+  standing_below = picked_chosen is_below (row_at rows) f 0 (λ i. same (stance ps f i) Below) rows ps long (λ j l. grind arith) (λ j l. grind arith)
 
   asked_is : (response : Row → List Row → List Row → Option ℕ) → length rows ≤ 96 → f < length rows → asked response rows ps f ≡ reply response (row_at rows f) (rows_above rows ps f) (rows_below rows ps f)
   unfolding asked

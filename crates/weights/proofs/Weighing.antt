@@ -1,6 +1,6 @@
 -- Bounds of costs and weights, and that a weight grows with the frame. Assumes nothing.
-use Rattle.std.proofs.Common.{◌≡◌, ℕ, ◌*◌, ◌≤◌, true, false, List, Option, sym, ap, ◌∙◌, subst, ⊎_elim, arith}
-use Rattle.std.proofs.lemmas.Bool.{cases_lt, cond-true, cond-false, cond_both}
+use Rattle.std.proofs.Common.{◌≡◌, ℕ, ◌*◌, ◌≤◌, true, false, List, Option, sym, ap, ◌∙◌, subst, arith}
+use Rattle.std.proofs.lemmas.Bool.{cond-true, cond-false, cond_both}
 use Rattle.frames.specs.declared.row.Row.{Row}
 use Rattle.frames.specs.Limits.{Lawful}
 use Rattle.timing.specs.Carried.{in_set, carried}
@@ -15,12 +15,10 @@ use Rattle.weights.specs.Weights.{weight_in, row_weight}
 module _ {D : Type 0} (count : D → ℕ) (cost : D → ℕ → ℕ → ℕ) (response : D → ℕ → Row → List Row → List Row → Option ℕ) (duties : Duties count cost response) (d : D) where
   -- in the bank and outside it
   pub cost_le : (k p : ℕ) → p ≤ 64 → cost d k p ≤ 20000000
-  cost_le k p h =
-      ⊎_elim {C = cost d k p ≤ 20000000} (λ l. (duties.costs d k p l h).1) (λ l. omega (arith, duties.free d k p l)) (cases_lt k (count d))
+  cost_le k p h = grind (arith, duties.costs d k p, duties.free d k p)
 
   pub cost_grows : (k p q : ℕ) → p ≤ q → q ≤ 64 → cost d k p ≤ cost d k q
-  cost_grows k p q h l =
-      ⊎_elim {C = cost d k p ≤ cost d k q} (λ m. duties.grows d k p q m h l) (λ m. omega (arith, duties.free d k p m, duties.free d k q m)) (cases_lt k (count d))
+  cost_grows k p q h l = grind (arith, duties.grows d k p q, duties.free d k p, duties.free d k q)
 
   pub weight_in_le : (k : ℕ) (r : Row) → Lawful r → weight_in (cost d) k r ≤ 20000000
   unfolding weight_in

@@ -3,7 +3,7 @@ use Rattle.std.proofs.lemmas.Bool.{cond-false, ne_eqb}
 use Rattle.domains.proofs.Asking.{asked_mute}
 use Rattle.std.specs.List.{AllByRecursion}
 use Rattle.streams.specs.Demands.{Fit}
-use Rattle.streams.proofs.Fitting.{all_fit}
+use Rattle.std.proofs.lemmas.List.Elements.{recursion_from_All}
 use Rattle.kinds.specs.KindLaws.{Own}
 use Rattle.kinds.proofs.Seeing.{seen_own}
 use Rattle.kinds.proofs.alone.answer_alone.Goals as goal
@@ -17,6 +17,6 @@ time-requires g c =
     let streams = c.in_ok-look.look in
     record {
       own = subst (Own (g.K.Kind.price d)) (sym c.view.ensures.own) (seen_own g.met.K.Kind.kept d _ _ _ streams c.in_ok-look.ensures);
-      under = subst (AllByRecursion Fit) (sym c.view.ensures.below) (all_fit _ streams.under);
+      under = subst (AllByRecursion Fit) (sym c.view.ensures.below) (recursion_from_All Fit _ streams.under);
       less = c.view.ensures.less;
     }

@@ -2,7 +2,7 @@ use Rattle.std.proofs.Common.{get_or, sym, ap, ◌∙◌, subst, arith}
 use Rattle.std.specs.List.{AllByRecursion}
 use Rattle.frames.proofs.Lawfuls.{from_lawful, checked_err, checked_ok}
 use Rattle.streams.specs.Demands.{Fit}
-use Rattle.streams.proofs.Fitting.{each_fits}
+use Rattle.std.proofs.lemmas.List.Elements.{All-from_recursion}
 use Rattle.domains.proofs.Asking.{asked_long, asked_outside, asked_unlawful, asked_unlawful_above, asked_unlawful_below, asked_is}
 use Rattle.domains.proofs.Replying.{all_lawful}
 use Rattle.domains.specs.Asked.{no_row}
@@ -44,8 +44,8 @@ invariant_of-result g c =
     let below = c.in_ok-below.ensures in
     record {
       fit = subst Fit (sym (c.stream_of.ensures ∙ ap (stream_by (g.K.Kind.price d)) c.in-Ok.ensures)) (own_by laws d (get_or c.args.question.now.rows.now c.args.question.now.frame no_row) (from_lawful _ own)).fit;
-      over = each_fits _ (subst (AllByRecursion Fit) (sym above.1) (all_fit laws d _ ((all_lawful _).0 above.0)));
-      under = each_fits _ (subst (AllByRecursion Fit) (sym below.1) (all_fit laws d _ ((all_lawful _).0 below.0)));
+      over = All-from_recursion Fit _ (subst (AllByRecursion Fit) (sym above.1) (all_fit laws d _ ((all_lawful _).0 above.0)));
+      under = All-from_recursion Fit _ (subst (AllByRecursion Fit) (sym below.1) (all_fit laws d _ ((all_lawful _).0 below.0)));
     }
 
 pub returns : goal.returns

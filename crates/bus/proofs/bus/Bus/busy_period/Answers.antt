@@ -1,14 +1,14 @@
 use Rattle.std.proofs.Common.{sym, ap, ◌∙◌, subst}
 use Rattle.std.specs.List.{AllByRecursion}
 use Rattle.streams.specs.Demands.{Fit}
-use Rattle.streams.proofs.Fitting.{all_fit}
+use Rattle.std.proofs.lemmas.List.Elements.{recursion_from_All}
 use Rattle.kinds.proofs.Seeing.{seen_is}
 use Rattle.bus.specs.Buses.{bus_price, busy_period, bus_busy}
 use Rattle.bus.proofs.Instances.{blocking_is}
 use Rattle.bus.proofs.bus.Bus.busy_period.Goals as goal
 
 pub largest_cost-requires : goal.largest_cost-requires
-largest_cost-requires c = subst (AllByRecursion Fit) (sym c.view-view.ensures.below) (all_fit _ c.in_ok-streams.streams.under)
+largest_cost-requires c = subst (AllByRecursion Fit) (sym c.view-view.ensures.below) (recursion_from_All Fit _ c.in_ok-streams.streams.under)
 
 pub returns : goal.returns
 returns c =

@@ -1,6 +1,6 @@
 use Rattle.std.proofs.Common.{◌≡◌, ℕ, ◌+◌, ◌*◌, ◌≤◌, max, is_some, sym, ap, ◌∙◌, subst, arith}
-use Rattle.streams.specs.Demands.{busy}
-use Rattle.streams.proofs.Fitting.{all_fit}
+use Rattle.streams.specs.Demands.{busy, Fit}
+use Rattle.std.proofs.lemmas.List.Elements.{recursion_from_All}
 use Rattle.bus.specs.Buses.{delay}
 use Rattle.bus.specs.Bussing.{waits, begins, busy_soon}
 use Rattle.bus.proofs.Instances.{few_instances}
@@ -29,7 +29,7 @@ settle-requires c =
 pub unwrap-requires : goal.unwrap-requires
 unfolding delay
 unwrap-requires c =
-    ap is_some (c.settle.ensures.is ∙ (waits c.args.view.now.own c.args.view.now.above.streams.now c.args.b c.requires.own.fit (all_fit _ c.args.view.now.above.fit) c.args.self.now.arbitration (short c.args.self.now c.args.view.now.own c.requires.own) c.requires.within.0 c.args.q (sym c.requires.within.1) c.requires.within.2).1)
+    ap is_some (c.settle.ensures.is ∙ (waits c.args.view.now.own c.args.view.now.above.streams.now c.args.b c.requires.own.fit (recursion_from_All Fit _ c.args.view.now.above.fit) c.args.self.now.arbitration (short c.args.self.now c.args.view.now.own c.requires.own) c.requires.within.0 c.args.q (sym c.requires.within.1) c.requires.within.2).1)
 
 pub returns : goal.returns
 unfolding delay
@@ -40,6 +40,6 @@ returns c =
     let a = c.args.self.now.arbitration in
     let arb = short c.args.self.now own c.requires.own in
     let is : delay a own us b c.args.q ≡ _ = sym c.settle.ensures.is ∙ c.unwrap.ensures in
-    let wait = waits own us b c.requires.own.fit (all_fit _ c.args.view.now.above.fit) a arb c.requires.within.0 c.args.q (sym c.requires.within.1) c.requires.within.2 in
+    let wait = waits own us b c.requires.own.fit (recursion_from_All Fit _ c.args.view.now.above.fit) a arb c.requires.within.0 c.args.q (sym c.requires.within.1) c.requires.within.2 in
     let same : wait.0 ≡ c.unwrap.result = let x = wait.1 in let y = is in cc in
-    record { is = is; begins = begins own us b c.requires.own.fit (all_fit _ c.args.view.now.above.fit) a arb c.requires.within.0 c.args.q c.unwrap.result (sym c.requires.within.1) c.requires.within.2 is; soon = omega (arith, same, wait.2, busy_soon own us b c.requires.within.0 (sym c.requires.within.1)) }
+    record { is = is; begins = begins own us b c.requires.own.fit (recursion_from_All Fit _ c.args.view.now.above.fit) a arb c.requires.within.0 c.args.q c.unwrap.result (sym c.requires.within.1) c.requires.within.2 is; soon = omega (arith, same, wait.2, busy_soon own us b c.requires.within.0 (sym c.requires.within.1)) }

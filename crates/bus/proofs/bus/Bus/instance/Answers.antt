@@ -1,7 +1,7 @@
 use Rattle.std.proofs.Common.{◌≡◌, ℕ, ◌<◌, ◌≤◌, Option, sym, ap, ◌∙◌, subst, arith}
 use Rattle.std.specs.List.{AllByRecursion}
 use Rattle.streams.specs.Demands.{ceil, Fit}
-use Rattle.streams.proofs.Fitting.{all_fit}
+use Rattle.std.proofs.lemmas.List.Elements.{recursion_from_All}
 use Rattle.domains.specs.Asked.{asked}
 use Rattle.kinds.specs.KindLaws.{Own}
 use Rattle.kinds.specs.Rows.{of_streams}
@@ -12,7 +12,7 @@ use Rattle.bus.proofs.Instances.{blocking_is, instance_none, instance_past, inst
 use Rattle.bus.proofs.bus.Bus.instance.Goals as goal
 
 pub largest_cost-b-requires : goal.largest_cost-b-requires
-largest_cost-b-requires c = subst (AllByRecursion Fit) (sym c.view-view.ensures.below) (all_fit _ c.in_ok-streams.streams.under)
+largest_cost-b-requires c = subst (AllByRecursion Fit) (sym c.view-view.ensures.below) (recursion_from_All Fit _ c.in_ok-streams.streams.under)
 
 pub returns-in_err-busy : goal.returns-in_err-busy
 returns-in_err-busy c =

@@ -1,7 +1,7 @@
 use Rattle.std.proofs.Common.{◌≡◌, ℕ, ◌+◌, ◌≤◌, Some, None, sym, ap, ◌∙◌, arith}
 use Rattle.shelf.proofs.Solutions.{is_solution}
-use Rattle.streams.specs.Demands.{busy, demand}
-use Rattle.streams.proofs.Fitting.{all_fit}
+use Rattle.streams.specs.Demands.{busy, demand, Fit}
+use Rattle.std.proofs.lemmas.List.Elements.{recursion_from_All}
 use Rattle.streams.proofs.Demanding.{demand_mono}
 use Rattle.streams.proofs.load.Load.settle.Goals as goal
 
@@ -17,7 +17,7 @@ loop-w-preserved c =
     let x = c.args.ahead in
     let streams = c.args.self.now.streams.now in
     let d = demand streams in
-    let up : (v w : ℕ) → v ≤ w → d (v + x) ≤ d (w + x) = λ v w h. demand_mono streams (all_fit _ c.args.self.now.fit) (v + x) (w + x) (omega arith) in
+    let up : (v w : ℕ) → v ≤ w → d (v + x) ≤ d (w + x) = λ v w h. demand_mono streams (recursion_from_All Fit _ c.args.self.now.fit) (v + x) (w + x) (omega arith) in
     let h : c.demand.result ≡ d (c.loop-w.w + x) = c.demand.ensures.is in
     let inv = c.loop-w.invariant in
     let next : ℕ = c.args.base + c.demand.result in

@@ -1,5 +1,6 @@
 use Rattle.std.proofs.Common.{◌≡◌, ◌+◌, ◌-◌, ◌*◌, sym, refl, ap, ◌∙◌, subst, arith}
-use Rattle.streams.proofs.Fitting.{all_fit}
+use Rattle.std.proofs.lemmas.List.Elements.{recursion_from_All}
+use Rattle.streams.specs.Demands.{Fit}
 use Rattle.bus.specs.Answers.{BusAnswer}
 use Rattle.bus.specs.Buses.{blocking, response_by}
 use Rattle.bus.specs.Bussing.{response_answer}
@@ -13,12 +14,12 @@ returns-in_err-busy c =
     let own = c.args.view.now.own in
     let us = c.args.view.now.above.streams.now in
     let is = c.from_residual.ensures ∙ no_end a own us _ c.in_err-busy.ensures.is ∙ ap (response_by a own us) (blocking_is _ _ c.largest_cost-b.ensures.is) in
-    record { is = is; words = subst (BusAnswer a own us (blocking c.args.view.now.below.now)) (sym is) (response_answer a own us (blocking c.args.view.now.below.now) c.requires.own.fit (short c.args.self.now own c.requires.own) (all_fit _ c.args.view.now.above.fit)) }
+    record { is = is; words = subst (BusAnswer a own us (blocking c.args.view.now.below.now)) (sym is) (response_answer a own us (blocking c.args.view.now.below.now) c.requires.own.fit (short c.args.self.now own c.requires.own) (recursion_from_All Fit _ c.args.view.now.above.fit)) }
 
 pub loop-q-preserved : goal.loop-q-preserved
 loop-q-preserved c =
     let time = (c.delay_of.result + c.args.view.now.own.cost) - c.loop-q.q * c.args.view.now.own.period in
-    instances_more c.args.self.now.arbitration c.args.view.now.own c.args.view.now.above.streams.now c.largest_cost-b.result (all_fit _ c.args.view.now.above.fit) c.loop-q.q c.delay_of.result c.delay_of.ensures.is c.loop-q.worst c.loop-q.known _ _ c.loop-q.invariant refl (omega arith)
+    instances_more c.args.self.now.arbitration c.args.view.now.own c.args.view.now.above.streams.now c.largest_cost-b.result (recursion_from_All Fit _ c.args.view.now.above.fit) c.loop-q.q c.delay_of.result c.delay_of.ensures.is c.loop-q.worst c.loop-q.known _ _ c.loop-q.invariant refl (omega arith)
 
 pub returns : goal.returns
 returns c =
@@ -27,4 +28,4 @@ returns c =
     let us = c.args.view.now.above.streams.now in
     let all : c.loop-q.q ≡ c.div_up-instances.result = omega arith in
     let is = worst_found a own us _ c.in_ok-busy.busy c.loop-q.q c.loop-q.worst c.in_ok-busy.ensures.is (all ∙ c.div_up-instances.ensures.is) c.loop-q.invariant.worst_is ∙ ap (response_by a own us) (blocking_is _ _ c.largest_cost-b.ensures.is) in
-    record { is = is; words = subst (BusAnswer a own us (blocking c.args.view.now.below.now)) (sym is) (response_answer a own us (blocking c.args.view.now.below.now) c.requires.own.fit (short c.args.self.now own c.requires.own) (all_fit _ c.args.view.now.above.fit)) }
+    record { is = is; words = subst (BusAnswer a own us (blocking c.args.view.now.below.now)) (sym is) (response_answer a own us (blocking c.args.view.now.below.now) c.requires.own.fit (short c.args.self.now own c.requires.own) (recursion_from_All Fit _ c.args.view.now.above.fit)) }
