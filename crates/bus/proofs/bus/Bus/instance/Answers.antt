@@ -1,10 +1,8 @@
-use Rattle.std.proofs.Common.{◌≡◌, ℕ, ◌<◌, ◌≤◌, Option, sym, ap, ◌∙◌, subst, arith}
+use Rattle.std.proofs.Common.{◌<◌, ◌≤◌, sym, ap, ◌∙◌, subst, arith}
 use Rattle.std.specs.List.{AllByRecursion}
 use Rattle.streams.specs.Demands.{ceil, Fit}
 use Rattle.std.proofs.lemmas.List.Elements.{recursion_from_All}
-use Rattle.domains.specs.Asked.{asked}
 use Rattle.kinds.specs.KindLaws.{Own}
-use Rattle.kinds.specs.Rows.{of_streams}
 use Rattle.kinds.proofs.Seeing.{seen_own, seen_is}
 use Rattle.bus.specs.Buses.{bus_price, bus_instance, instance_by}
 use Rattle.bus.specs.Wiring.{bus_kept}
