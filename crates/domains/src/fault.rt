@@ -15,7 +15,7 @@ pub enum DomainFault {
 }
 
 impl DomainFault {
-    // The number of the refusal.
+    // The number of the refusal. As a `From` it would be no plainer: it would not say what number of the fault it is.
     pub fn number(&self) -> u8
         ensures { result ≡ (domain_told self.now).number }
     {

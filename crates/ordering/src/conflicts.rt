@@ -19,7 +19,7 @@ pub struct Conflict {
     pub table: [Place; 96],
 }
 
-// Whether the `count` frames that the table has above have an order.
+// Whether the `count` frames that the table has above have an order. It is given the count, since `find_conflict` has it.
 fn has_order<B: Domain>(frames: &Frames<B>, mut places: [Place; 96], count: usize) -> bool
     requires free { length (above (take (length frames.now.rows.now) places)) ≡ count }
     requires none { below (take (length frames.now.rows.now) places) ≡ [] }
@@ -36,7 +36,7 @@ pub(crate) fn find_conflict<B: Domain>(frames: &Frames<B>) -> Conflict
 {
     let mut table = [Place::Above; 96];
     let mut size = frames.rows.len();
-    // By number, since the table that it goes over changes on the way.
+    // By number in list order, as the rule has it; the table that it goes over changes on the way.
     for f in 0..frames.rows.len() {
         let mut trial = table;
         trial[f] = Place::Absent;

@@ -29,9 +29,9 @@ fn calls_one_after_another(rt: HostRuntime) -> Result<(), Fail> {
         Call::Reopen,
     ];
     let mut answers = [Answer::NotAllowed; 8];
-    let Ok(plan) = replay(Bus::new(2_000, 500)?, &calls, &mut answers) else {
-        return Err(Fail::new("no room for the answers"));
-    };
+    let plan = replay(Bus::new(2_000, 500)?, &calls, &mut answers).map_err(|_bank| Fail::new(
+        "no room for the answers",
+    ))?;
     let Plan::Open(draft) = plan else {
         return Err(Fail::new("not a draft"));
     };
@@ -52,9 +52,8 @@ fn calls_one_after_another(rt: HostRuntime) -> Result<(), Fail> {
 fn too_few_answers(rt: HostRuntime) -> Result<(), Fail> {
     let calls = [Call::Close, Call::Weight];
     let mut answers = [Answer::NotAllowed; 1];
-    let Err(_bank) = replay(Bus::new(2_000, 500)?, &calls, &mut answers) else {
-        return Err(Fail::new("calls were made"));
-    };
+    let replayed = replay(Bus::new(2_000, 500)?, &calls, &mut answers);
+    assert!(rt; replayed.is_err(), "no calls were made");
     assert_eq!(rt; answers[0], Answer::NotAllowed, "nothing was written");
     Ok(())
 }

@@ -8,7 +8,7 @@ use std::test::Fail;
 
 pub(crate) type Bank = Pair<Pair<Bus, Bus>, Pair<Gateway, Radio>>;
 
-// Two buses, a gateway and a radio link.
+// Two buses, a gateway and a radio link: the bank of the program `truck`, from which no test can take it.
 pub(crate) fn bank() -> Result<Bank, Fail> {
     let bus = Bus::new(2_000, 500)?;
     Ok(Pair::new(

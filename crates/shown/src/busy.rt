@@ -51,6 +51,7 @@ fn print_instances(rt: &HostRuntime, bus: &Bus, question: &Question<'_>) -> anyh
         };
         let number = q + 1;
         println!(rt; "instance {number}     {time:>8}")?;
+        // Two values at once, so no `max`.
         if time > worst {
             worst = time;
             latest = number;

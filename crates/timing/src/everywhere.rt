@@ -21,7 +21,7 @@ pub struct Frames<'a, B> {
     pub ghost few: { length rows.now ≤ 96 },
 }
 
-// The same, with a table of where each frame stands. It is flat, since the compiler refuses a trial in a loop that holds
+// The same, with a table of where each frame stands, which changes while the rows stay. It is flat, since the compiler refuses a trial in a loop that holds
 // the frames by reference, and they are not copied.
 #[derive(Drop)]
 pub struct Trial<'a, B> {

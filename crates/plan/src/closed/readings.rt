@@ -98,6 +98,7 @@ impl<B: Domain> Closed<B> {
         }
     }
 
+    // Counts and weight stand in a draft too, where it is said why.
     pub fn signal_count(&self) -> usize
         ensures { result ≡ length (held self.now.tables).signals }
     {
