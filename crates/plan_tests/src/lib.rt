@@ -9,6 +9,8 @@ mod drafts;
 #[cfg(test)]
 mod limits;
 #[cfg(test)]
+mod orders;
+#[cfg(test)]
 mod replays;
 #[cfg(test)]
 mod samples;

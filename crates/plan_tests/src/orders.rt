@@ -1,0 +1,32 @@
+// An order of a list of rows, without a plan around it.
+use bus::bus::Bus;
+use frames::row::Row;
+use ordering::orders::find_order;
+use std::test::Fail;
+use timing::everywhere::Frames;
+
+const PATIENT: Row = Row {
+    sender: 1,
+    fill: 8,
+    period: 10_000_000,
+    deadline: 10_000_000,
+    set: 1,
+};
+
+// The last place goes to the first frame that is in time there. A clone is the same order.
+#[test]
+fn an_order_and_its_clone(rt: HostRuntime) -> Result<(), Fail> {
+    let bank = Bus::new(2_000, 500)?;
+    let rows = [PATIENT; 2];
+    let frames = Frames {
+        bank: &bank,
+        rows: &rows,
+    };
+    let order = find_order(&frames).map_err(|_conflict| Fail::new("there is an order"))?;
+    assert_eq!(rt; order.numbers.as_slice(), [1, 0].as_slice());
+    assert_eq!(rt; order.examinations, 2);
+    let again = order.clone()?;
+    assert_eq!(rt; again.numbers.as_slice(), order.numbers.as_slice());
+    assert_eq!(rt; again.examinations, order.examinations);
+    Ok(())
+}
