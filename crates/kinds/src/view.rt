@@ -17,8 +17,8 @@ pub struct Streams {
     ghost under: { All Fit below.items },
 }
 
-// As a kind of domain is asked. What stands below does not matter to each kind, so only those to whom it does ask that it
-// is within its limits.
+// As a kind of domain is asked. What stands below does not matter to each kind, so only those to whom it does ask that
+// it is within its limits.
 #[derive(Clone, Copy)]
 pub struct View<'a> {
     pub own: Stream,

@@ -11,15 +11,15 @@ use domains::domain::Domain;
 use domains::place::Place;
 use timing::everywhere::Frames;
 
-// The frames of a conflict are those that the table has above, and so many are they. A list of their numbers would be no
-// plainer: the filter and the reading of a member both go by number.
+// The frames of a conflict are those that the table has above, and so many are they. A list of their numbers would be
+// no plainer: the filter and the reading of a member both go by number.
 #[derive(Clone, Copy)]
 pub struct Conflict {
     pub size: usize,
     pub table: [Place; 96],
 }
 
-// Whether the `count` frames that the table has above have an order. It is given the count, since `find_conflict` has it.
+// Whether the `count` frames that the table has above have an order. The count is given, since `find_conflict` has it.
 fn has_order<B: Domain>(frames: &Frames<B>, mut places: [Place; 96], count: usize) -> bool
     requires free { length (above (take (length frames.now.rows.now) places)) ≡ count }
     requires none { below (take (length frames.now.rows.now) places) ≡ [] }

@@ -23,8 +23,8 @@ fn left_out(places: [Place; 96], i: usize) -> [Place; 96]
 }
 
 // By how much frame f of the rows is earlier in domain k without frame i; none where it has no response time.
-// Rows, places and number are no `Question`, since a frame is left out of a copy of the places: an array by value, for a
-// slice of any length cannot be copied without a heap.
+// Rows, places and number are no `Question`, since a frame is left out of a copy of the places: an array by value, for
+// a slice of any length cannot be copied without a heap.
 pub fn relief<D: Domain>(
     domain: &D,
     k: usize,

@@ -17,7 +17,7 @@ fn rank_of(f: usize, i: usize) -> Place
     if i < f { Place::Above } else { Place::Below }
 }
 
-// The response time in domain k of frame f, with the rows in order of priority; none where the domain does not carry it.
+// The response time in domain k of frame f, with the rows in order of priority; none where it is not carried there.
 pub fn response_at<B: Domain>(bank: &B, k: usize, rows: &[Row], f: usize) -> Option<u64>
     ensures { result ≡ response_at (B.response bank.now) k rows.now f }
 {
