@@ -9,10 +9,11 @@ ghost use Rattle.relief.specs.Gains.{Gains};
 use domains::domain::Domain;
 use domains::place::Place;
 use domains::question::Question;
+use frames::limits::MAX_FRAMES;
 use frames::row::Row;
 
 // The places with frame i left out; a number that is not in the table leaves them as they are.
-fn left_out(places: [Place; 96], i: usize) -> [Place; 96]
+fn left_out(places: [Place; MAX_FRAMES], i: usize) -> [Place; MAX_FRAMES]
     ensures { result ≡ slice_set places i Gone }
 {
     let mut without = places;
@@ -29,7 +30,7 @@ pub fn relief<D: Domain>(
     domain: &D,
     k: usize,
     rows: &[Row],
-    places: [Place; 96],
+    places: [Place; MAX_FRAMES],
     f: usize,
     i: usize,
 ) -> Option<u64>

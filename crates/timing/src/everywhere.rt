@@ -10,6 +10,7 @@ use crate::carried::{carries, in_time};
 use domains::domain::{Domain, MOST_DOMAINS};
 use domains::place::Place;
 use domains::question::Question;
+use frames::limits::MAX_FRAMES;
 use frames::row::Row;
 use std::array;
 
@@ -45,7 +46,7 @@ impl<B: Domain> Trial<'_, B> {
 
     // The table with the frames left out that domain k does not carry. It has a place for every number that there may
     // be; those past the rows are not asked about.
-    fn told(&self, k: usize) -> [Place; 96]
+    fn told(&self, k: usize) -> [Place; MAX_FRAMES]
         ensures { let rows = self.now.rows.now in let places = self.now.places.now in (j : ℕ) → j < length rows → slice_index_or result j Up ≡ (if carried k (row_at rows j) then slice_index_or places j Up else Gone) }
     {
         array::from_fn(|i| self.told_place(k, i))
