@@ -1,15 +1,16 @@
 // What the tables hold, one signal more, and one out.
-ghost use Rattle.std.specs.Prelude.{◌≡◌, ℕ, ◌+◌, ◌<◌, ◌≤◌, [], ◌∷◌, ◌++◌, length, slice_set};
+ghost use Rattle.std.specs.Prelude.{◌≡◌, ◌+◌, ◌<◌, ◌≤◌, [], ◌∷◌, ◌++◌, length, slice_set};
 ghost use Rattle.signals.specs.Riders.{riders};
 ghost use Rattle.signals.specs.Rows.{row_by};
 ghost use Rattle.packing.specs.Holds.{held};
 ghost use Rattle.packing.specs.Laws.{Placeable, WellPacked};
-ghost use Rattle.packing.specs.Packings.{packed, row, rows, rows_of, placed, taken_out};
+ghost use Rattle.packing.specs.Packings.{packed, row, rows, placed, taken_out};
 
 use crate::table::SignalTable;
 use crate::tables::{MAX_FRAMES, Tables};
 use arrayvec::ArrayVec;
 use frames::row::Row;
+use signals::entries::has_rider;
 use signals::gather::{BLANK, gather, join};
 use signals::signal::{Entry, Signal};
 
@@ -78,14 +79,19 @@ impl Tables {
         self.signals.entries.push(Entry { signal, frame: n });
     }
 
-    // Takes the signal at place i out.
+    // Takes the signal at place i out. Its frame's row alone is gathered anew, or leaves where no signal rides there.
     pub fn take_out(&mut self, i: usize)
         requires { i < length (held self.old).signals }
         ensures { held self.new ≡ taken_out (held self.old) i }
     {
         let gone = self.signals.entries.remove(i);
-        let frames = self.signals.leave(gone.frame, self.rows.len());
-        self.rows = gather_all(&self.signals.entries, frames);
+        let f = gone.frame;
+        if has_rider(&self.signals.entries, f) {
+            put(&mut self.rows, f, gather(&self.signals.entries, f));
+        } else {
+            self.signals.close_up(f);
+            self.rows.remove(f);
+        }
     }
 }
 
@@ -100,18 +106,4 @@ fn put(rows: &mut ArrayVec<Row, MAX_FRAMES>, n: usize, row: Row)
         Some(old) => *old = row,
         None => rows.push(row),
     }
-}
-
-// The rows of the first n frames.
-fn gather_all(entries: &[Entry], n: usize) -> ArrayVec<Row, MAX_FRAMES>
-    requires room { n ≤ 96 }
-    requires fills { (k : ℕ) → k < n → (row_by (riders k entries.now)).fill ≤ 64 }
-    ensures { result.items ≡ rows_of entries.now n }
-{
-    let mut rows = ArrayVec::new();
-    // By the number of the frame, of which there is no list to go over.
-    for k in 0..n {
-        rows.push(gather(entries, k));
-    }
-    rows
 }
