@@ -15,6 +15,7 @@ use Rattle.signals.specs.Riders.{riders}
 use Rattle.signals.specs.Rows.{row_by}
 use Rattle.signals.proofs.Riding.{riders_none, riders_all, riders_push, riders_push_other}
 use Rattle.signals.proofs.Rowing.{row_nil, row_push, row_lawful}
+use Rattle.packing.specs.Choices.{row_with}
 use Rattle.packing.specs.Laws.{Placeable}
 use Rattle.packing.specs.Packings.{Packing, row, placed}
 use Rattle.packing.proofs.Sounds.{Sound, Fair}
@@ -39,6 +40,13 @@ lawful_push [] s h l room = row_lawful s [] (l, tt) (omega (arith, fill_push [] 
 lawful_push (t ∷ ss) s h l room =
     row_lawful t (ss ++ (s ∷ [])) (h.0, All-push LawfulSignal ss s h.1 l) (omega (arith, fill_push (t ∷ ss) s))
 
+pub lawful_with : (p : Packing) (n : ℕ) (s : Signal) → Sound p → LawfulSignal s → (row p n).fill + s.size ≤ 64 → Lawful (row_with p n s)
+lawful_with p n s h l room = lawful_push (riders n p.signals) s (lawful_riders p n h) l room
+
+-- a new frame has room for any signal
+pub room_past : (p : Packing) (n : ℕ) (s : Signal) → Sound p → LawfulSignal s → p.frames ≤ n → (row p n).fill + s.size ≤ 64
+room_past p n s h l past = omega (arith, fill_past p n h past, l.sized.1)
+
 module _ (p : Packing) (s : Signal) (n : ℕ) (h : Sound p) (may : Placeable p s n) where
   abbrev new : Entry
   new = record { signal = s; frame = n }
@@ -46,11 +54,8 @@ module _ (p : Packing) (s : Signal) (n : ℕ) (h : Sound p) (may : Placeable p s
   pub room_at : (row p n).fill + s.size ≤ 64
   room_at = ⊎_elim {C = (row p n).fill + s.size ≤ 64}
       (λ l. leb-true _ _ (and_parts _ _ (may.joins l)).1)
-      (λ l. omega (arith, fill_past p n h l, may.lawful.sized.1))
+      (room_past p n s h may.lawful)
       (cases_lt n p.frames)
-
-  pub lawful_at : Lawful (row_by (riders n p.signals ++ (s ∷ [])))
-  lawful_at = lawful_push (riders n p.signals) s (lawful_riders p n h) may.lawful room_at
 
   -- the row of the frame, and those of the others
   row_there : row (placed p s n) n ≡ row_by (riders n p.signals ++ (s ∷ []))
@@ -81,7 +86,7 @@ module _ (p : Packing) (s : Signal) (n : ℕ) (h : Sound p) (may : Placeable p s
         (All-weaker (Fair p) (Fair (placed p s n)) (λ e f. record { lawful = f.lawful; within = omega (arith, f.within); of_sender = f.of_sender ∙ sym (sender_stays e.frame f.within) }) p.signals h.signals)
         (record { lawful = may.lawful; within = omega arith; of_sender = sym sender_there });
     frames = λ k l. ⊎_elim {C = Lawful (row (placed p s n) k)}
-        (λ q. subst (λ i. Lawful (row (placed p s n) i)) (sym q) (subst Lawful (sym row_there) lawful_at))
+        (λ q. subst (λ i. Lawful (row (placed p s n) i)) (sym q) (subst Lawful (sym row_there) (lawful_with p n s h may.lawful room_at)))
         (λ q. subst Lawful (sym (row_elsewhere k q)) (h.frames k (omega (arith, may.near))))
         (cases_eq k n);
   }

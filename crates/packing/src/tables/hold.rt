@@ -1,5 +1,8 @@
 // What the tables hold, one signal more, and one out.
 ghost use Rattle.std.specs.Prelude.{◌≡◌, ◌+◌, ◌<◌, ◌≤◌, [], ◌∷◌, ◌++◌, length, slice_set};
+ghost use Rattle.std.specs.List.{AllByRecursion};
+ghost use Rattle.frames.specs.Limits.{Lawful};
+ghost use Rattle.signals.specs.Limits.{LawfulSignal};
 ghost use Rattle.signals.specs.Riders.{riders};
 ghost use Rattle.signals.specs.Rows.{row_by};
 ghost use Rattle.packing.specs.Holds.{held};
@@ -49,14 +52,17 @@ impl Tables {
 
     // The rows of the frames, in list order.
     pub fn frame_rows(&self) -> &[Row]
-        ensures { result.now ≡ rows (held self.now) }
+        ensures is { result.now ≡ rows (held self.now) }
+        ensures few { length result.now ≤ 96 }
+        ensures lawful { AllByRecursion Lawful result.now }
     {
         self.rows.as_slice()
     }
 
     // The row of frame n; past the last frame, a blank one.
     pub fn row(&self, n: usize) -> Row
-        ensures { result ≡ row (held self.now) n }
+        ensures is { result ≡ row (held self.now) n }
+        ensures lawful { n < (held self.now).frames → Lawful result }
     {
         self.rows.get(n).copied().unwrap_or(BLANK)
     }
@@ -64,7 +70,8 @@ impl Tables {
     // The row that frame n would have with the signal in it.
     pub(crate) fn row_with(&self, n: usize, signal: &Signal) -> Row
         requires { (row (held self.now) n).fill + signal.now.size ≤ 64 }
-        ensures { result ≡ row_by (riders n (held self.now).signals ++ (signal.now ∷ [])) }
+        ensures is { result ≡ row_by (riders n (held self.now).signals ++ (signal.now ∷ [])) }
+        ensures lawful { LawfulSignal signal.now → Lawful result }
     {
         join(&self.row(n), signal)
     }

@@ -15,10 +15,10 @@ invariant_of-self c =
     let rows = c.put.new.rows.items in
     let e = c.put.ensures in
     record {
-      ok = put_ok c.args.self.now c.args.signal c.args.n c.requires signals rows _ c.push.ensures.items c.row_with-row.ensures e.old e.next;
-      kept = put_kept c.args.self.now c.args.signal c.args.n c.requires signals rows _ c.push.ensures.items c.row_with-row.ensures e.old e.next;
+      ok = put_ok c.args.self.now c.args.signal c.args.n c.requires signals rows _ c.push.ensures.items c.row_with-row.ensures.is e.old e.next;
+      kept = put_kept c.args.self.now c.args.signal c.args.n c.requires signals rows _ c.push.ensures.items c.row_with-row.ensures.is e.old e.next;
     }
 
 pub returns : goal.returns
 returns c =
-    put_is c.args.self.now c.args.signal c.args.n c.requires (record { entries = c.push.new.self }) c.put.new.rows.items _ c.push.ensures.items c.row_with-row.ensures c.put.ensures.old c.put.ensures.next
+    put_is c.args.self.now c.args.signal c.args.n c.requires (record { entries = c.push.new.self }) c.put.new.rows.items _ c.push.ensures.items c.row_with-row.ensures.is c.put.ensures.old c.put.ensures.next
