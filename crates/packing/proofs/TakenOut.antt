@@ -13,12 +13,12 @@ use Rattle.signals.specs.Limits.{LawfulSignal}
 use Rattle.signals.specs.Names.{names, no_entry}
 use Rattle.signals.specs.Riders.{riders, any_in}
 use Rattle.signals.specs.Rows.{row_by}
-use Rattle.signals.proofs.Riding.{rider, no_rider, riders_all, riders_some, riders_split, riders_removed, riders_removed_other, any_own, none_in}
+use Rattle.signals.proofs.Riding.{rider, no_rider, riders_some, riders_split, riders_removed, riders_removed_other, any_own, none_in}
 use Rattle.signals.proofs.Rowing.{fill_append, fill_cons, row_lawful, row_sender}
 use Rattle.packing.specs.Packings.{Packing, packed, row, rows, lower, lowered, taken_out}
 use Rattle.packing.proofs.Lowering.{raised, raised_lowered, raised_other, raised_below, lowered_below, riders_lowered, names_lowered}
 use Rattle.packing.proofs.Rowed.{rows_set, rows_removed}
-use Rattle.packing.proofs.Sounds.{Sound, Fair}
+use Rattle.packing.proofs.Sounds.{Sound, Fair, lawful_riders, one_sender}
 
 -- two facts of each element
 all_both : {X : Type 0} (P Q : X → Type 0) (xs : List X) → AllByRecursion P xs → AllByRecursion Q xs → AllByRecursion (λ x. P x × Q x) xs
@@ -62,14 +62,6 @@ module _ (p : Packing) (i : ℕ) (h : Sound p) (within : i < length p.signals) w
   same_riders : (k : ℕ) → (k ≡ gone → ⊥) → riders k left ≡ riders k p.signals
   same_riders k ne = riders_removed_other k p.signals i within (λ e. ne (sym e))
 
-  riders_left : (k : ℕ) → AllByRecursion LawfulSignal (riders k left)
-  riders_left k =
-      riders_all k LawfulSignal left (All-weaker (Fair p) (λ e. e.frame ≡ k → LawfulSignal e.signal) (λ e f q. f.lawful) left fair_left)
-
-  one_sender : (k : ℕ) → AllByRecursion (λ s. s.sender ≡ (row p k).sender) (riders k left)
-  one_sender k =
-      riders_all k (λ s. s.sender ≡ (row p k).sender) left (All-weaker (Fair p) (λ e. e.frame ≡ k → e.signal.sender ≡ (row p k).sender) (λ e f q. f.of_sender ∙ ap (λ j. (row p j).sender) q) left fair_left)
-
   pub fill_left : (row_by (riders gone left)).fill ≤ 64
   fill_left = omega (arith, fill_without gone p.signals i within, (h.frames gone gone_below).filled.1)
 
@@ -82,7 +74,7 @@ module _ (p : Packing) (i : ℕ) (h : Sound p) (within : i < length p.signals) w
     lawful_left : Lawful (row_by (riders gone left))
     lawful_left =
         let r = riders_some gone left some in
-        subst (λ ss. Lawful (row_by ss)) (sym r.2) (row_lawful r.0 r.1 (subst (AllByRecursion LawfulSignal) r.2 (riders_left gone)) (subst (λ ss. (row_by ss).fill ≤ 64) r.2 fill_left))
+        subst (λ ss. Lawful (row_by ss)) (sym r.2) (row_lawful r.0 r.1 (subst (AllByRecursion LawfulSignal) r.2 (lawful_riders p left fair_left gone)) (subst (λ ss. (row_by ss).fill ≤ 64) r.2 fill_left))
 
     row_left : (k : ℕ) → k < p.frames → Lawful (row_by (riders k left))
     row_left k l = ⊎_elim {C = Lawful (row_by (riders k left))}
@@ -93,7 +85,7 @@ module _ (p : Packing) (i : ℕ) (h : Sound p) (within : i < length p.signals) w
     sender_left : (k : ℕ) → any_in k left ≡ true → (row_by (riders k left)).sender ≡ (row p k).sender
     sender_left k t =
         let r = riders_some k left t in
-        ap (λ ss. (row_by ss).sender) r.2 ∙ row_sender (row p k).sender r.0 r.1 (subst (AllByRecursion (λ s. s.sender ≡ (row p k).sender)) r.2 (one_sender k))
+        ap (λ ss. (row_by ss).sender) r.2 ∙ row_sender (row p k).sender r.0 r.1 (subst (AllByRecursion (λ s. s.sender ≡ (row p k).sender)) r.2 (one_sender p left fair_left k))
 
     sound_left : Sound (packed left p.frames)
     sound_left = record {
