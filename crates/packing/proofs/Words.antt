@@ -8,9 +8,11 @@ use Rattle.signals.specs.Limits.{LawfulSignal}
 use Rattle.signals.specs.Riders.{riders}
 use Rattle.signals.specs.Rows.{row_by}
 use Rattle.signals.proofs.Rowing.{row_nil, row_gathered}
+use Rattle.packing.specs.declared.tables.Tables.{Tables}
+use Rattle.packing.specs.Holds.{held}
 use Rattle.packing.specs.Laws.{WellPacked}
 use Rattle.packing.specs.Packings.{Packing, row}
-use Rattle.packing.proofs.Sounds.{Sound, Fair, lawful_riders, one_sender}
+use Rattle.packing.proofs.Sounds.{Sound, Fair, to_sound, lawful_riders, one_sender}
 
 -- signals that fill something are there
 gathered_by : (q : ℕ) (ss : List Signal) → AllByRecursion LawfulSignal ss → AllByRecursion (λ s. s.sender ≡ q) ss → 1 ≤ (row_by ss).fill → Gathered ss (row_by ss)
@@ -28,3 +30,7 @@ well_packed p h = record {
   gathered = λ n l. gathered_by (row p n).sender (riders n p.signals) (lawful_riders p p.signals h.signals n) (one_sender p p.signals h.signals n) (h.frames n l).filled.0;
   checked = h.frames;
 }
+
+-- so what tables hold is well packed
+pub held_packed : (t : Tables) → WellPacked (held t)
+held_packed t = well_packed (held t) (to_sound (held t) t.ok)

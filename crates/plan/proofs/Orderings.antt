@@ -16,7 +16,7 @@ use Rattle.plan.specs.Said.Said.{gives, refuses}
 use Rattle.plan.specs.Stands.{Stands}
 use Rattle.plan.specs.Stands.Stands.{order, conflict}
 use Rattle.plan.specs.Subject.{HasOrder, Iff, Upheld}
-use Rattle.plan.proofs.Readings.{rows_long}
+use Rattle.packing.proofs.Rowed.{rows_long}
 use Rattle.plan.proofs.Upholding.{has_order, no_order, ordered_upheld}
 
 -- what order answers and leaves standing, and whether there is an order
@@ -39,7 +39,7 @@ module _ (m : Bank) (laws : Laws (in_time m)) (p : Packing) (few : p.frames ≤ 
 
   pub order_refused : (c : Conflict) → Refused (in_time m) (rows p) c → Outcome m p (refuses (plan_told (NoOrder c.size))) (conflict (above (take p.frames c.table))) false
   order_refused c h =
-      let stand : conflict (above (take p.frames c.table)) ≡ ordered m p = ap (λ n. conflict (above (take n c.table))) (sym (rows_long p)) ∙ ap conflict h.is ∙ sym (ap (standing_after m p) h.none) in
+      let stand : conflict (above (take p.frames c.table)) ≡ ordered m p = ap (λ n. conflict (above (take n c.table))) (sym (rows_long p.signals p.frames)) ∙ ap conflict h.is ∙ sym (ap (standing_after m p) h.none) in
       record {
         says = ap (λ n. refuses (plan_told (NoOrder n))) h.size ∙ sym (ap (order_answers m p) h.none);
         stands = stand;

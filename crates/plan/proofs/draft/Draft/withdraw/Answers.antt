@@ -1,8 +1,7 @@
 use Rattle.std.proofs.Common.{[], sym, refl, ap, ◌∙◌}
 use Rattle.std.proofs.lemmas.Result.{err_from_is_err_and}
 use Rattle.packing.specs.Holds.{held}
-use Rattle.packing.proofs.Sounds.{to_sound}
-use Rattle.packing.proofs.Words.{well_packed}
+use Rattle.packing.proofs.Words.{held_packed}
 use Rattle.plan.specs.Said.{unless_refused}
 use Rattle.plan.proofs.Asking.{unknown, known, withdrawn_by}
 use Rattle.plan.proofs.draft.Draft.withdraw.Goals as goal
@@ -16,7 +15,7 @@ returns-in_err-i g c =
       says = rw (r.1, r.2, none.0) (sym (ap (unless_refused []) (unknown p c.args.name none.1)));
       holds = sym (withdrawn_by p c.args.name _ none.1);
       bank = refl;
-      packed = well_packed p (to_sound _ c.args.self.now.tables.ok);
+      packed = held_packed c.args.self.now.tables;
     }
 
 pub returns : goal.returns
@@ -27,5 +26,5 @@ returns g c =
       says = sym (ap (unless_refused []) (known p c.args.name _ at));
       holds = c.take_out.ensures ∙ sym (withdrawn_by p c.args.name _ at);
       bank = refl;
-      packed = well_packed _ (to_sound _ c.take_out.new.self.ok);
+      packed = held_packed c.take_out.new.self;
     }
