@@ -1,7 +1,9 @@
 use Rattle.std.proofs.Common.{◌≤◌, set, sym, ap, ◌∙◌, subst, arith}
 use Rattle.signals.specs.Riders.{riders, any_in}
 use Rattle.signals.specs.Rows.{row_by}
-use Rattle.packing.proofs.Keeping.{Out, out_below, out_fill, stays, leaves}
+use Rattle.packing.specs.Holds.{held}
+use Rattle.packing.specs.Packings.{taken_out}
+use Rattle.packing.proofs.Keeping.{Kept, out_below, out_fill, stays, leaves}
 use Rattle.packing.proofs.tables.Tables.take_out.Goals as goal
 use Rattle.packing.proofs.tables.Tables.take_out.Goals.{After-put, After-remove}
 
@@ -17,7 +19,7 @@ put-requires c =
     record { near = omega (arith, below.0); room = omega (arith, below.0, below.1) }
 
 -- the frame stays
-stayed : (c : goal.After-put) → Out c.args.self.now c.args.i c.remove-gone.new.self.items c.put.new.rows.items
+stayed : (c : goal.After-put) → Kept (taken_out (held c.args.self.now) c.args.i) c.remove-gone.new.self.items c.put.new.rows.items
 stayed c =
     let e = c.remove-gone.ensures in
     stays c.args.self.now c.args.i c.requires _ _ e.value e.items (ap (any_in _) (sym c.deref.ensures.0) ∙ sym c.if-has_rider.ensures) _
@@ -35,7 +37,7 @@ remove-requires c =
     (omega arith, (out_below c.args.self.now c.args.i c.requires _ _ e.value e.items).0)
 
 -- the frame leaves
-left : (c : goal.After-remove) → Out c.args.self.now c.args.i c.close_up.new.self.entries.items c.remove.new.self.items
+left : (c : goal.After-remove) → Kept (taken_out (held c.args.self.now) c.args.i) c.close_up.new.self.entries.items c.remove.new.self.items
 left c =
     let e = c.remove-gone.ensures in
     leaves c.args.self.now c.args.i c.requires _ _ e.value e.items (ap (any_in _) (sym c.deref.ensures.0) ∙ sym c.if-has_rider.ensures) _ c.close_up.ensures _ c.remove.ensures.items
