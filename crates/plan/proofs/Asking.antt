@@ -17,10 +17,13 @@ use Rattle.plan.specs.declared.fault.PlanFault.TheVariants.{NameTaken, SignalsFu
 use Rattle.plan.specs.Drafts.{chosen, unless, entered}
 use Rattle.plan.specs.Questions.{Questions, first_no, figure_questions, place_questions, enter_questions, name_questions, Asked}
 
--- where a name stands, or the fault that it is unknown
-pub looked_up : (name : ℕ) (es : List Entry) (o : Option ℕ) → o ≡ place_of name 0 es → MatchResult (ok_or o NameUnknown) (λ i. (place_of name 0 es ≡ Some i) × (i < length es)) (λ e. (e ≡ NameUnknown) × (place_of name 0 es ≡ None))
-looked_up name es None e = (refl, sym e)
-looked_up name es (Some i) e = (sym e, omega (arith, (found_within name 0 i es (sym e)).1))
+-- where a name stands among the signals, or the fault that it is unknown
+pub looked_up : (name : ℕ) (ss es : List Entry) (o : Option ℕ) → es ≡ ss → o ≡ place_of name 0 es → MatchResult (ok_or o NameUnknown) (λ i. (place_of name 0 ss ≡ Some i) × (i < length ss)) (λ e. (e ≡ NameUnknown) × (place_of name 0 ss ≡ None))
+looked_up name ss es o same found = go o (sym (found ∙ ap (place_of name 0) same))
+  where
+    go : (o : Option ℕ) → place_of name 0 ss ≡ o → MatchResult (ok_or o NameUnknown) (λ i. (place_of name 0 ss ≡ Some i) × (i < length ss)) (λ e. (e ≡ NameUnknown) × (place_of name 0 ss ≡ None))
+    go None e = (refl, e)
+    go (Some i) e = (e, omega (arith, (found_within name 0 i ss e).1))
 
 -- the questions of a list come before those of another
 abbrev or_else : Option PlanFault → Option PlanFault → Option PlanFault
@@ -44,19 +47,22 @@ module _ (domains : ℕ) (cost : ℕ → ℕ → ℕ) (p : Packing) (s : Signal)
   no_figure count f all e =
       first_no_append (figure_questions domains s) (place_questions cost p s) ∙ ap (λ o. or_else o (first_no (place_questions cost p s))) (ap (λ n. first_no (figure_questions n s)) (sym all) ∙ sym e)
 
-  -- once the figures are asked about over as many domains, and the name is looked for
-  module _ (count : ℕ) (all : count ≡ domains) (figures : None ≡ first_no (figure_questions count s)) (o : Option ℕ) (found : o ≡ place_of s.name 0 p.signals) where
+  -- once the figures are asked about over as many domains, and the name is looked for among the signals
+  module _ (count : ℕ) (all : count ≡ domains) (figures : None ≡ first_no (figure_questions count s)) (es : List Entry) (same : es ≡ p.signals) (o : Option ℕ) (found : o ≡ place_of s.name 0 es) where
     no_figures : first_no (figure_questions domains s) ≡ None
     no_figures = ap (λ n. first_no (figure_questions n s)) (sym all) ∙ sym figures
+
+    named : is_some o ≡ is_some (place_of s.name 0 p.signals)
+    named = ap is_some (found ∙ ap (place_of s.name 0) same)
 
     pub no_name : is_some o ≡ true → first_no (enter_questions domains cost p s) ≡ Some NameTaken
     unfolding enter_questions
     no_name e =
-        no_after (figure_questions domains s) (place_questions cost p s) _ no_figures (cond-false _ _ _ (not_from_true _ (sym (ap is_some found) ∙ e)))
+        no_after (figure_questions domains s) (place_questions cost p s) _ no_figures (cond-false _ _ _ (not_from_true _ (sym named ∙ e)))
 
     module _ (free : is_some o ≡ false) where
       unnamed : is_some (place_of s.name 0 p.signals) ≡ false
-      unnamed = sym (ap is_some found) ∙ free
+      unnamed = sym named ∙ free
 
       pub no_room : 256 ≤ length p.signals → first_no (enter_questions domains cost p s) ≡ Some SignalsFull
       unfolding enter_questions
