@@ -93,6 +93,9 @@ module _ {t : Row → List Row → List Row → Bool} (laws : Laws t) {rows : Li
 
 -- as the loop has it: there is a place for each frame that is not yet placed
 module _ {t : Row → List Row → List Row → Bool} {rows : List Row} {us : List ℕ} {count : ℕ} {ps : List Place} {bs : List ℕ} {n : ℕ} (h : Placing t rows us count ps bs (count - length bs) n) where
+  pub placing_few : length bs < count → n + examined (tested t rows ps) (above ps) ≤ 9216
+  placing_few l = omega (arith, h.few, h.free, h.whole, h.most, examined_most (tested t rows ps) (above ps))
+
   module _ (laws : Laws t) (l : length bs < count) where
     more : Placing t rows us count ps bs (suc (count - suc (length bs))) n
     more = let k : count - length bs ≡ suc (count - suc (length bs)) = omega arith in subst (λ x. Placing t rows us count ps bs x n) k h

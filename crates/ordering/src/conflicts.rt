@@ -1,10 +1,10 @@
 // Frames that have no order together, and have one when any of them is left out.
-ghost use Rattle.std.specs.Prelude.{◌≡◌, [], length, take, drop, replicate, is_some};
+ghost use Rattle.std.specs.Prelude.{◌≡◌, [], length, take, drop, replicate};
 ghost use Rattle.domains.specs.Asked.{no_row};
 ghost use Rattle.domains.specs.declared.place.Place.TheVariants.{Above as Up};
 ghost use Rattle.timing.specs.Everywhere.{everywhere};
 ghost use Rattle.timing.specs.Places.{above, below, row_at, by_number};
-ghost use Rattle.ordering.specs.Orders.{greedy, conflict_of};
+ghost use Rattle.ordering.specs.Orders.{orderable, conflict_of};
 
 use crate::places::arrange;
 use domains::domain::Domain;
@@ -24,7 +24,7 @@ pub struct Conflict {
 fn has_order<B: Domain>(frames: &Frames<B>, mut places: [Place; MAX_FRAMES], count: usize) -> bool
     requires free { length (above (take (length frames.now.rows.now) places)) ≡ count }
     requires none { below (take (length frames.now.rows.now) places) ≡ [] }
-    ensures { let rows = frames.now.rows.now in result ≡ is_some (greedy (by_number (everywhere (B.response frames.now.bank.now)) (row_at rows)) count (above (take (length rows) places)) []) }
+    ensures { let rows = frames.now.rows.now in result ≡ orderable (by_number (everywhere (B.response frames.now.bank.now)) (row_at rows)) (above (take (length rows) places)) }
 {
     arrange(frames, &mut places[..frames.rows.len()], count).is_some()
 }

@@ -1,71 +1,84 @@
 -- What the tables keep after a change. Assumes nothing.
-use Rattle.std.proofs.Common.{◌≡◌, ℕ, suc, ◌+◌, ◌<◌, ◌≤◌, max, true, List, [], ◌∷◌, ◌++◌, length, get_or, set, sym, ap, ◌∙◌, subst, ap₂, ⊎_elim, arith}
+use Rattle.std.proofs.Common.{◌≡◌, ℕ, suc, ◌+◌, ◌<◌, ◌≤◌, ◌-◌, max, true, false, List, [], ◌∷◌, ◌++◌, map, length, get_or, set, sym, ap, ◌∙◌, subst₂, ap₂, ⊎_elim, arith}
 use Rattle.std.specs.List.{remove}
-use Rattle.std.proofs.lemmas.List.{length_push, length-set, get_or_default}
-use Rattle.std.proofs.lemmas.Bool.{cases_lt}
+use Rattle.std.proofs.lemmas.List.{get_or_default}
+use Rattle.std.proofs.lemmas.Bool.{cases_lt, cond-true, cond-false}
 use Rattle.frames.specs.declared.row.Row.{Row}
 use Rattle.signals.specs.declared.signal.Signal.{Signal}
 use Rattle.signals.specs.declared.signal.Entry.{Entry}
-use Rattle.signals.specs.Riders.{riders}
+use Rattle.signals.specs.Riders.{riders, any_in}
 use Rattle.signals.specs.Rows.{row_by}
-use Rattle.packing.specs.declared.table.SignalTable.{SignalTable}
 use Rattle.packing.specs.declared.tables.Tables.{Tables}
 use Rattle.packing.specs.Holds.{held}
 use Rattle.packing.specs.Laws.{Placeable}
-use Rattle.packing.specs.Packings.{packed, rows_of, placed, closed_up, taken_out}
+use Rattle.packing.specs.Packings.{Packing, packed, rows_of, placed, lower, taken_out}
 use Rattle.packing.specs.Sound.{sound}
 use Rattle.packing.specs.Tables.{listed}
 use Rattle.packing.proofs.Placing.{placed_sound}
 use Rattle.packing.proofs.Rowed.{rows_long, rows_joined, rows_opened}
 use Rattle.packing.proofs.Sounds.{Sound, to_sound, from_sound}
-use Rattle.packing.proofs.TakenOut.{taken_sound, gone_below}
+use Rattle.packing.proofs.TakenOut.{gone, gone_below, fill_left, rows_left, rows_moved, taken_sound}
+
+-- signals and rows that are those of a packing
+pub record Kept (p : Packing) (es : List Entry) (rows : List Row) : Type 0 where
+  pub is : packed es (length rows) ≡ p
+  pub ok : sound (packed es (length rows)) ≡ true
+  pub kept : rows ≡ rows_of es (length rows)
+
+kept_by : (p : Packing) → Sound p → (es : List Entry) (n : ℕ) (rows : List Row) → packed es n ≡ p → rows ≡ rows_of es n → Kept p es rows
+kept_by p h es n rows is given =
+    let long : length rows ≡ n = ap length given ∙ rows_long es n in
+    let whole : packed es (length rows) ≡ p = ap (packed es) long ∙ is in
+    record { is = whole; ok = ap sound whole ∙ from_sound p h; kept = given ∙ ap (rows_of es) (sym long) }
 
 -- a signal was put in
-module _ (old : Tables) (s : Signal) (n : ℕ) (may : Placeable (held old) s n) (t : SignalTable) (rows : List Row) (r : Row)
-    (list : listed t ≡ listed old.signals ++ (record { signal = s; frame = n } ∷ [])) (e : r ≡ row_by (riders n (listed old.signals) ++ (s ∷ [])))
-    (joins : n < length old.rows.items → rows ≡ set old.rows.items n r) (opens : n ≡ length old.rows.items → rows ≡ old.rows.items ++ (r ∷ [])) where
-  put_long : length rows ≡ max (length old.rows.items) (suc n)
-  put_long = ⊎_elim {C = length rows ≡ max (length old.rows.items) (suc n)}
-      (λ l. omega (arith, ap length (joins l), length-set old.rows.items n r))
-      (λ l. let q : n ≡ length old.rows.items = omega (arith, may.near) in omega (arith, ap length (opens q), length_push old.rows.items r))
-      (cases_lt n (length old.rows.items))
+module _ (old : Tables) (s : Signal) (n : ℕ) (may : Placeable (held old) s n) (es : List Entry) (rows : List Row) (r : Row)
+    (list : es ≡ listed old.signals ++ (record { signal = s; frame = n } ∷ [])) (e : r ≡ row_by (riders n (listed old.signals) ++ (s ∷ []))) where
+  abbrev frames : ℕ
+  frames = length old.rows.items
 
-  pub put_is : packed (listed t) (length rows) ≡ placed (held old) s n
+  by : (m : ℕ) → m ≡ max frames (suc n) → rows ≡ rows_of (listed old.signals ++ (record { signal = s; frame = n } ∷ [])) m → Kept (placed (held old) s n) es rows
   unfolding placed
-  put_is = ap₂ packed list put_long
+  by m is given =
+      kept_by (placed (held old) s n) (placed_sound (held old) s n (to_sound _ old.ok) may) es m rows (ap₂ packed list is) (given ∙ ap (λ l. rows_of l m) (sym list))
 
-  pub put_ok : sound (packed (listed t) (length rows)) ≡ true
-  put_ok = ap sound put_is ∙ from_sound _ (placed_sound (held old) s n (to_sound _ old.ok) may)
-
-  pub put_kept : rows ≡ rows_of (listed t) (length rows)
-  put_kept = ⊎_elim {C = rows ≡ rows_of (listed t) (length rows)}
-      (λ l. let m : length old.rows.items ≡ length rows = omega (arith, put_long) in joins l ∙ ap (λ rs. set rs n r) old.kept ∙ rows_joined (listed old.signals) (length old.rows.items) s n r e l ∙ ap₂ rows_of (sym list) m)
-      (λ l. let q : n ≡ length old.rows.items = omega (arith, may.near) in let m : length old.rows.items + 1 ≡ length rows = omega (arith, put_long) in opens q ∙ ap (λ rs. rs ++ (r ∷ [])) old.kept ∙ rows_opened (listed old.signals) (length old.rows.items) s n r e q ∙ ap₂ rows_of (sym list) m)
-      (cases_lt n (length old.rows.items))
+  pub put_in : (n < frames → rows ≡ set old.rows.items n r) → (n ≡ frames → rows ≡ old.rows.items ++ (r ∷ [])) → Kept (placed (held old) s n) es rows
+  put_in joins opens = ⊎_elim {C = Kept (placed (held old) s n) es rows}
+      (λ l. by frames (omega arith) (joins l ∙ ap (λ rs. set rs n r) old.kept ∙ rows_joined (listed old.signals) frames s n r e l))
+      (λ l. let q : n ≡ frames = omega (arith, may.near) in by (frames + 1) (omega arith) (opens q ∙ ap (λ rs. rs ++ (r ∷ [])) old.kept ∙ rows_opened (listed old.signals) frames s n r e q))
+      (cases_lt n frames)
 
 -- a signal was taken out
-pub out_some : (old : Tables) (i : ℕ) → i < length (listed old.signals) → 1 ≤ length old.rows.items
-out_some old i pre = omega (arith, gone_below (held old) i (to_sound _ old.ok) pre)
+module _ (old : Tables) (i : ℕ) (pre : i < length (listed old.signals)) where
+  abbrev p : Packing
+  p = held old
 
-module _ (old : Tables) (i : ℕ) (pre : i < length (listed old.signals)) (gone : Entry) (rest : List Entry) (frames : ℕ) (entry : gone ≡ get_or (listed old.signals) i gone)
-    (list : rest ≡ remove (listed old.signals) i) (is : frames ≡ length old.rows.items) (es : List Entry) (n : ℕ) (left : packed es n ≡ closed_up gone.frame rest frames) where
-  out_is : packed es n ≡ taken_out (held old) i
-  unfolding taken_out
-  out_is =
-      left ∙ ap (closed_up gone.frame rest) is ∙ ap₂ (λ e l. closed_up e.frame l (length old.rows.items)) (entry ∙ get_or_default (listed old.signals) i _ _ pre) list
+  h : Sound p
+  h = to_sound p old.ok
 
-  pub out_sound : Sound (packed es n)
-  out_sound = subst Sound (sym out_is) (taken_sound (held old) i (to_sound _ old.ok) pre)
+  out_by : (es : List Entry) (n : ℕ) (rows : List Row) → packed es n ≡ taken_out p i → rows ≡ rows_of es n → Kept (taken_out p i) es rows
+  out_by = kept_by (taken_out p i) (taken_sound p i h pre)
 
-  module _ (rows : List Row) (given : rows ≡ rows_of es n) where
-    long : length rows ≡ n
-    long = ap length given ∙ rows_long es n
+  module _ (e : Entry) (rest : List Entry) (entry : e ≡ get_or (listed old.signals) i e) (list : rest ≡ remove (listed old.signals) i) where
+    its : e.frame ≡ gone p i h pre
+    its = ap (λ x. x.frame) (entry ∙ get_or_default (listed old.signals) i _ _ pre)
 
-    pub out_held : packed es (length rows) ≡ taken_out (held old) i
-    out_held = ap (packed es) long ∙ out_is
+    pub out_below : (e.frame < length old.rows.items) × (length old.rows.items ≤ 96)
+    out_below = (omega (arith, its, gone_below p i h pre), h.room)
 
-    pub out_ok : sound (packed es (length rows)) ≡ true
-    out_ok = ap (λ k. sound (packed es k)) long ∙ from_sound _ out_sound
+    pub out_fill : (row_by (riders e.frame rest)).fill ≤ 64
+    out_fill = subst₂ (λ k es. (row_by (riders k es)).fill ≤ 64) (sym its) (sym list) (fill_left p i h pre)
 
-    pub out_kept : rows ≡ rows_of es (length rows)
-    out_kept = given ∙ ap (rows_of es) (sym long)
+    pub stays : any_in e.frame rest ≡ true → (rows : List Row) → rows ≡ set old.rows.items e.frame (row_by (riders e.frame rest)) → Kept (taken_out p i) rest rows
+    unfolding taken_out
+    stays some rows given =
+        out_by rest p.frames rows (ap (λ es. packed es p.frames) list ∙ sym (cond-true _ _ _ (sym (ap₂ any_in its list) ∙ some)))
+        (given ∙ ap₂ (λ k es. set old.rows.items k (row_by (riders k es))) its list ∙ ap (λ rs. set rs (gone p i h pre) (row_by (riders (gone p i h pre) (remove (listed old.signals) i)))) old.kept ∙ rows_left p i h pre ∙ ap (λ es. rows_of es p.frames) (sym list))
+
+    pub leaves : any_in e.frame rest ≡ false → (es : List Entry) → es ≡ map (lower e.frame) rest → (rows : List Row) → rows ≡ remove old.rows.items e.frame → Kept (taken_out p i) es rows
+    unfolding taken_out
+    leaves none es moved rows given =
+        let none : any_in (gone p i h pre) (remove (listed old.signals) i) ≡ false = sym (ap₂ any_in its list) ∙ none in
+        let at : es ≡ map (lower (gone p i h pre)) (remove (listed old.signals) i) = moved ∙ ap₂ (λ k l. map (lower k) l) its list in
+        out_by es (p.frames - 1) rows (ap (λ l. packed l (p.frames - 1)) at ∙ sym (cond-false _ _ _ none))
+        (given ∙ ap (remove old.rows.items) its ∙ ap (λ rs. remove rs (gone p i h pre)) old.kept ∙ rows_moved p i h pre none ∙ ap (λ l. rows_of l (p.frames - 1)) (sym at))

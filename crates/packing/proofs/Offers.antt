@@ -5,6 +5,7 @@ use native.Mathlib.Nat.{min-le_left}
 use Rattle.std.specs.List.{AllByRecursion}
 use Rattle.timing.specs.Carried.{in_set}
 use Rattle.frames.specs.Limits.{Lawful}
+use Rattle.frames.specs.declared.row.Row.{Row}
 use Rattle.signals.specs.declared.signal.Signal.{Signal}
 use Rattle.signals.specs.Limits.{LawfulSignal}
 use Rattle.signals.specs.Names.{names}
@@ -18,7 +19,7 @@ use Rattle.packing.specs.Choices.{may_join, row_with, growth_at, choice, Best}
 use Rattle.packing.specs.Laws.{Placeable}
 use Rattle.packing.specs.Packings.{Packing, row}
 use Rattle.packing.proofs.Chosen.{best_is}
-use Rattle.packing.proofs.Placing.{fill_past, fill_push, lawful_push, lawful_riders}
+use Rattle.packing.proofs.Placing.{fill_push}
 use Rattle.packing.proofs.Sounds.{Sound}
 
 -- a frame with one signal more
@@ -31,22 +32,26 @@ fuller ss s lasts = record {
 }
 
 module _ (cost : ℕ → ℕ → ℕ) (p : Packing) (s : Signal) (n : ℕ) where
-  -- a frame that there is
-  module _ (old : n < p.frames) where
+  -- a frame is no lighter with one signal more, since a larger payload costs no less
+  pub heavier : Lawful (row_with p n s) → ((k q r : ℕ) → q ≤ r → r ≤ 64 → cost k q ≤ cost k r) → row_weight cost (row p n) ≤ row_weight cost (row_with p n s)
+  heavier l up = fuller_heavier cost up (row p n) (row_with p n s) (fuller (riders n p.signals) s (omega (arith, l.paced.0)))
+
+  -- a frame that there is, of such a row
+  module _ (old : n < p.frames) (r : Row) (is : r ≡ row p n) where
     no_join : may_join (row p n) s ≡ false → None ≡ growth_at cost p s n
     unfolding growth_at
     no_join t = grind (arith, nat_tests)
 
-    pub other_sender : ((row p n).sender ≡ s.sender → ⊥) → None ≡ growth_at cost p s n
-    other_sender ne = no_join (grind (arith, nat_tests))
+    pub other_sender : (r.sender ≡ s.sender → ⊥) → None ≡ growth_at cost p s n
+    other_sender ne = no_join (grind (arith, nat_tests, ap (λ x. x.sender) is))
 
-    pub too_full : 64 < (row p n).fill + s.size → None ≡ growth_at cost p s n
-    too_full more = no_join (grind (arith, nat_tests))
+    pub too_full : 64 < r.fill + s.size → None ≡ growth_at cost p s n
+    too_full more = no_join (grind (arith, nat_tests, ap (λ x. x.fill) is))
 
-    pub joins : (row p n).sender ≡ s.sender → (row p n).fill + s.size ≤ 64 → (w v : ℕ) → w ≡ row_weight cost (row_with p n s) → v ≡ row_weight cost (row p n) → Some (w - v) ≡ growth_at cost p s n
+    pub joins : r.sender ≡ s.sender → r.fill + s.size ≤ 64 → (w v : ℕ) → w ≡ row_weight cost (row_with p n s) → v ≡ row_weight cost (row p n) → Some (w - v) ≡ growth_at cost p s n
     unfolding growth_at
     joins same room w v x y =
-        let yes : may_join (row p n) s ≡ true = grind (arith, nat_tests) in grind (arith, nat_tests)
+        let yes : may_join (row p n) s ≡ true = grind (arith, nat_tests, ap (λ x. x.sender) is, ap (λ x. x.fill) is) in grind (arith, nat_tests)
 
   -- a new one
   module _ (past : p.frames ≤ n) where
@@ -57,17 +62,6 @@ module _ (cost : ℕ → ℕ → ℕ) (p : Packing) (s : Signal) (n : ℕ) where
     pub opens : n < 96 → (w : ℕ) → w ≡ row_weight cost (row_with p n s) → Some w ≡ growth_at cost p s n
     unfolding growth_at
     opens room w x = grind (arith, nat_tests)
-
-  pub lawful_with : Sound p → LawfulSignal s → (row p n).fill + s.size ≤ 64 → Lawful (row_with p n s)
-  lawful_with h l room = lawful_push (riders n p.signals) s (lawful_riders p n h) l room
-
-  -- a frame is no lighter with one signal more, since a larger payload costs no less
-  pub heavier : Sound p → LawfulSignal s → (row p n).fill + s.size ≤ 64 → ((k q r : ℕ) → q ≤ r → r ≤ 64 → cost k q ≤ cost k r) → row_weight cost (row p n) ≤ row_weight cost (row_with p n s)
-  heavier h l room up =
-      fuller_heavier cost up (row p n) (row_with p n s) (fuller (riders n p.signals) s (omega (arith, (lawful_with h l room).paced.0)))
-
-  pub room_past : Sound p → LawfulSignal s → p.frames ≤ n → (row p n).fill + s.size ≤ 64
-  room_past h l past = omega (arith, fill_past p n h past, l.sized.1)
 
 -- the choice may take the signal
 pub choice_placeable : (cost : ℕ → ℕ → ℕ) (p : Packing) (s : Signal) (c : Choice) → Sound p → LawfulSignal s → length p.signals < 256 → AllByRecursion (λ y. y ≡ s.name → ⊥) (names p.signals) → choice cost p s ≡ Some c → Placeable p s c.frame

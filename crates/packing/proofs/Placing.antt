@@ -13,23 +13,19 @@ use Rattle.signals.specs.Limits.{LawfulSignal}
 use Rattle.signals.specs.Names.{names}
 use Rattle.signals.specs.Riders.{riders}
 use Rattle.signals.specs.Rows.{row_by}
-use Rattle.signals.proofs.Riding.{riders_none, riders_all, riders_push, riders_push_other}
+use Rattle.signals.proofs.Riding.{riders_none, riders_push, riders_push_other}
 use Rattle.signals.proofs.Rowing.{row_nil, row_push, row_lawful}
+use Rattle.packing.specs.Choices.{row_with}
 use Rattle.packing.specs.Laws.{Placeable}
 use Rattle.packing.specs.Packings.{Packing, row, placed}
-use Rattle.packing.proofs.Sounds.{Sound, Fair}
+use Rattle.packing.proofs.Sounds.{Sound, Fair, lawful_riders}
 
 -- past the last frame there are no riders
+pub none_past : (p : Packing) (n : ℕ) → Sound p → p.frames ≤ n → AllByRecursion (λ e. e.frame ≡ n → ⊥) p.signals
+none_past p n h l = All-weaker (Fair p) (λ e. e.frame ≡ n → ⊥) (λ e f q. omega (arith, f.within)) p.signals h.signals
+
 pub riders_past : (p : Packing) (n : ℕ) → Sound p → p.frames ≤ n → riders n p.signals ≡ []
-riders_past p n h l =
-    riders_none n p.signals (All-weaker (Fair p) (λ e. e.frame ≡ n → ⊥) (λ e f q. omega (arith, f.within)) p.signals h.signals)
-
-pub fill_past : (p : Packing) (n : ℕ) → Sound p → p.frames ≤ n → (row p n).fill ≡ 0
-fill_past p n h l = ap (λ ss. (row_by ss).fill) (riders_past p n h l) ∙ ap (λ r. r.fill) row_nil
-
-pub lawful_riders : (p : Packing) (n : ℕ) → Sound p → AllByRecursion LawfulSignal (riders n p.signals)
-lawful_riders p n h =
-    riders_all n LawfulSignal p.signals (All-weaker (Fair p) (λ e. e.frame ≡ n → LawfulSignal e.signal) (λ e f q. f.lawful) p.signals h.signals)
+riders_past p n h l = riders_none n p.signals (none_past p n h l)
 
 pub fill_push : (ss : List Signal) (s : Signal) → (row_by (ss ++ (s ∷ []))).fill ≡ (row_by ss).fill + s.size
 fill_push ss s = ap (λ r. r.fill) (row_push ss s)
@@ -39,6 +35,13 @@ lawful_push [] s h l room = row_lawful s [] (l, tt) (omega (arith, fill_push [] 
 lawful_push (t ∷ ss) s h l room =
     row_lawful t (ss ++ (s ∷ [])) (h.0, All-push LawfulSignal ss s h.1 l) (omega (arith, fill_push (t ∷ ss) s))
 
+pub lawful_with : (p : Packing) (n : ℕ) (s : Signal) → Sound p → LawfulSignal s → (row p n).fill + s.size ≤ 64 → Lawful (row_with p n s)
+lawful_with p n s h l room = lawful_push (riders n p.signals) s (lawful_riders p p.signals h.signals n) l room
+
+-- a new frame has room for any signal
+pub room_past : (p : Packing) (n : ℕ) (s : Signal) → Sound p → LawfulSignal s → p.frames ≤ n → (row p n).fill + s.size ≤ 64
+room_past p n s h l past = omega (arith, ap (λ ss. (row_by ss).fill) (riders_past p n h past), ap (λ r. r.fill) row_nil, l.sized.1)
+
 module _ (p : Packing) (s : Signal) (n : ℕ) (h : Sound p) (may : Placeable p s n) where
   abbrev new : Entry
   new = record { signal = s; frame = n }
@@ -46,11 +49,8 @@ module _ (p : Packing) (s : Signal) (n : ℕ) (h : Sound p) (may : Placeable p s
   pub room_at : (row p n).fill + s.size ≤ 64
   room_at = ⊎_elim {C = (row p n).fill + s.size ≤ 64}
       (λ l. leb-true _ _ (and_parts _ _ (may.joins l)).1)
-      (λ l. omega (arith, fill_past p n h l, may.lawful.sized.1))
+      (room_past p n s h may.lawful)
       (cases_lt n p.frames)
-
-  pub lawful_at : Lawful (row_by (riders n p.signals ++ (s ∷ [])))
-  lawful_at = lawful_push (riders n p.signals) s (lawful_riders p n h) may.lawful room_at
 
   -- the row of the frame, and those of the others
   row_there : row (placed p s n) n ≡ row_by (riders n p.signals ++ (s ∷ []))
@@ -81,7 +81,7 @@ module _ (p : Packing) (s : Signal) (n : ℕ) (h : Sound p) (may : Placeable p s
         (All-weaker (Fair p) (Fair (placed p s n)) (λ e f. record { lawful = f.lawful; within = omega (arith, f.within); of_sender = f.of_sender ∙ sym (sender_stays e.frame f.within) }) p.signals h.signals)
         (record { lawful = may.lawful; within = omega arith; of_sender = sym sender_there });
     frames = λ k l. ⊎_elim {C = Lawful (row (placed p s n) k)}
-        (λ q. subst (λ i. Lawful (row (placed p s n) i)) (sym q) (subst Lawful (sym row_there) lawful_at))
+        (λ q. subst (λ i. Lawful (row (placed p s n) i)) (sym q) (subst Lawful (sym row_there) (lawful_with p n s h may.lawful room_at)))
         (λ q. subst Lawful (sym (row_elsewhere k q)) (h.frames k (omega (arith, may.near))))
         (cases_eq k n);
   }

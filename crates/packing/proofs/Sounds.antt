@@ -1,9 +1,8 @@
 -- What the tables keep of a packing, as a fact and as a test. Assumes nothing.
-use Rattle.std.proofs.Common.{◌≡◌, ℕ, ◌<◌, ◌≤◌, true, List, length, Decides, sym, subst, arith}
+use Rattle.std.proofs.Common.{◌≡◌, ℕ, ◌<◌, ◌≤◌, true, List, length, Decides, sym, ap, ◌∙◌, subst, arith}
 use Rattle.std.specs.List.{AllByRecursion}
 use Rattle.std.proofs.lemmas.Bool.{and_parts, and_from, leb-true, le-leb, ltb-true, lt-ltb, eqb-true, eq-eqb}
-use Rattle.std.proofs.ByRecursion.{All-get_or, All-from_get_or}
-use Rattle.std.proofs.lemmas.List.FromFn.{length-map-range_with_len, get_or-map-range_with_len}
+use Rattle.std.proofs.ByRecursion.{All-get_or, All-from_get_or, All-weaker}
 use Rattle.frames.specs.declared.row.Row.{Row}
 use Rattle.frames.specs.Limits.{Lawful, lawful}
 use Rattle.frames.proofs.Lawfuls.{decides_lawful}
@@ -15,11 +14,12 @@ use Rattle.signals.specs.declared.signal.Entry.{Entry}
 use Rattle.signals.specs.Limits.{LawfulSignal, lawful_signal}
 use Rattle.signals.specs.Names.{names}
 use Rattle.signals.specs.Riders.{riders}
-use Rattle.signals.specs.Rows.{row_by}
+use Rattle.signals.proofs.Riding.{riders_all}
 use Rattle.signals.proofs.Rowing.{decides_signal}
 use Rattle.domains.specs.Asked.{no_row}
 use Rattle.packing.specs.Packings.{Packing, row, rows}
 use Rattle.packing.specs.Sound.{fair, sound}
+use Rattle.packing.proofs.Rowed.{rows_long, row_at}
 
 pub record Fair (p : Packing) (e : Entry) : Type 0 where
   pub lawful : LawfulSignal e.signal
@@ -48,17 +48,24 @@ fairs p = decides_every (fair p) (Fair p) (decides_fair p)
 all_lawful : (rs : List Row) → Decides (every lawful rs) (AllByRecursion Lawful rs)
 all_lawful = decides_every lawful Lawful decides_lawful
 
-module _ (p : Packing) where
-  abbrev at : ℕ → Row
-  at k = row_by (riders k p.signals)
+-- what each entry keeps, its frame's riders keep
+module _ (p : Packing) (es : List Entry) (fair : AllByRecursion (Fair p) es) (k : ℕ) where
+  pub lawful_riders : AllByRecursion LawfulSignal (riders k es)
+  lawful_riders =
+      riders_all k LawfulSignal es (All-weaker (Fair p) (λ e. e.frame ≡ k → LawfulSignal e.signal) (λ e f q. f.lawful) es fair)
 
+  pub one_sender : AllByRecursion (λ s. s.sender ≡ (row p k).sender) (riders k es)
+  one_sender =
+      riders_all k (λ s. s.sender ≡ (row p k).sender) es (All-weaker (Fair p) (λ e. e.frame ≡ k → e.signal.sender ≡ (row p k).sender) (λ e f q. f.of_sender ∙ ap (λ j. (row p j).sender) q) es fair)
+
+module _ (p : Packing) where
   each_row : AllByRecursion Lawful (rows p) → (n : ℕ) → n < p.frames → Lawful (row p n)
   each_row h n l =
-      subst Lawful (get_or-map-range_with_len at 0 p.frames n n no_row l (omega arith)) (All-get_or Lawful (rows p) n no_row (omega (arith, length-map-range_with_len at 0 p.frames)) h)
+      subst Lawful (row_at p.signals p.frames n no_row l) (All-get_or Lawful (rows p) n no_row (omega (arith, rows_long p.signals p.frames)) h)
 
   pub lawful_rows : ((n : ℕ) → n < p.frames → Lawful (row p n)) → AllByRecursion Lawful (rows p)
   lawful_rows h =
-      All-from_get_or Lawful (rows p) no_row (λ n l. let k : n < p.frames = omega (arith, length-map-range_with_len at 0 p.frames) in subst Lawful (sym (get_or-map-range_with_len at 0 p.frames n n no_row k (omega arith))) (h n k))
+      All-from_get_or Lawful (rows p) no_row (λ n l. let k : n < p.frames = omega (arith, rows_long p.signals p.frames) in subst Lawful (sym (row_at p.signals p.frames n no_row k)) (h n k))
 
   pub to_sound : sound p ≡ true → Sound p
   unfolding sound
@@ -79,7 +86,3 @@ module _ (p : Packing) where
   unfolding sound
   from_sound h =
       and_from _ _ (le-leb _ _ h.few) (and_from _ _ (le-leb _ _ h.room) (and_from _ _ ((decides_apart (names p.signals)).1 h.apart_names) (and_from _ _ ((fairs p p.signals).1 h.signals) ((all_lawful (rows p)).1 (lawful_rows h.frames)))))
-
-  -- it has at most 96 rows
-  pub few_rows : sound p ≡ true → length (rows p) ≤ 96
-  few_rows e = omega (arith, length-map-range_with_len (λ k. row p k) 0 p.frames, (to_sound e).room)

@@ -1,10 +1,10 @@
 -- A packing stays sound where a signal is taken out. Assumes nothing.
-use Rattle.std.proofs.Common.{◌≡◌, ℕ, suc, ◌-◌, ◌<◌, ◌≤◌, true, false, List, [], ◌∷◌, ◌++◌, map, length, get_or, take, drop, sym, ap, ◌∙◌, subst, ap₂, ⊎_elim, arith}
+use Rattle.std.proofs.Common.{◌≡◌, ℕ, suc, ◌-◌, ◌<◌, ◌≤◌, true, false, List, [], ◌∷◌, ◌++◌, map, length, get_or, set, take, drop, sym, refl, ap, ◌∙◌, subst, ap₂, ⊎_elim, add-one, arith}
 use Rattle.std.specs.List.{remove, AllByRecursion}
 use Rattle.std.proofs.lemmas.List.{length-map, map-append, take-map, drop-map}
 use Rattle.std.proofs.lemmas.List.Edits.{length-remove}
 use Rattle.std.proofs.ByRecursion.{All-weaker, All-append, All-take, All-drop, All-get_or, All-map}
-use Rattle.std.proofs.lemmas.Bool.{cases_eq, cond_both}
+use Rattle.std.proofs.lemmas.Bool.{cases_eq, cond-true, cond-false, cond_both, lt-ltb, le-ltb}
 use Rattle.frames.specs.Limits.{Lawful}
 use Rattle.shelf.specs.Apart.{Apart}
 use Rattle.shelf.proofs.Aparts.{apart_removed}
@@ -13,11 +13,12 @@ use Rattle.signals.specs.Limits.{LawfulSignal}
 use Rattle.signals.specs.Names.{names, no_entry}
 use Rattle.signals.specs.Riders.{riders, any_in}
 use Rattle.signals.specs.Rows.{row_by}
-use Rattle.signals.proofs.Riding.{rider, no_rider, riders_all, riders_some, riders_split, riders_removed, riders_removed_other, any_own, none_in}
+use Rattle.signals.proofs.Riding.{rider, no_rider, riders_some, riders_split, riders_removed, riders_removed_other, any_own, none_in}
 use Rattle.signals.proofs.Rowing.{fill_append, fill_cons, row_lawful, row_sender}
-use Rattle.packing.specs.Packings.{Packing, packed, row, lower, lowered, taken_out}
+use Rattle.packing.specs.Packings.{Packing, packed, row, rows, lower, lowered, taken_out}
 use Rattle.packing.proofs.Lowering.{raised, raised_lowered, raised_other, raised_below, lowered_below, riders_lowered, names_lowered}
-use Rattle.packing.proofs.Sounds.{Sound, Fair}
+use Rattle.packing.proofs.Rowed.{rows_set, rows_removed}
+use Rattle.packing.proofs.Sounds.{Sound, Fair, lawful_riders, one_sender}
 
 -- two facts of each element
 all_both : {X : Type 0} (P Q : X → Type 0) (xs : List X) → AllByRecursion P xs → AllByRecursion Q xs → AllByRecursion (λ x. P x × Q x) xs
@@ -41,7 +42,7 @@ names_removed es i =
     map-append (λ e. e.signal.name) (take i es) (drop (suc i) es) ∙ ap₂ ◌++◌ (sym (take-map (λ e. e.signal.name) i es)) (sym (drop-map (λ e. e.signal.name) (suc i) es))
 
 module _ (p : Packing) (i : ℕ) (h : Sound p) (within : i < length p.signals) where
-  abbrev gone : ℕ
+  abbrev pub gone : ℕ
   gone = (get_or p.signals i no_entry).frame
 
   abbrev left : List Entry
@@ -61,21 +62,19 @@ module _ (p : Packing) (i : ℕ) (h : Sound p) (within : i < length p.signals) w
   same_riders : (k : ℕ) → (k ≡ gone → ⊥) → riders k left ≡ riders k p.signals
   same_riders k ne = riders_removed_other k p.signals i within (λ e. ne (sym e))
 
-  riders_left : (k : ℕ) → AllByRecursion LawfulSignal (riders k left)
-  riders_left k =
-      riders_all k LawfulSignal left (All-weaker (Fair p) (λ e. e.frame ≡ k → LawfulSignal e.signal) (λ e f q. f.lawful) left fair_left)
+  pub fill_left : (row_by (riders gone left)).fill ≤ 64
+  fill_left = omega (arith, fill_without gone p.signals i within, (h.frames gone gone_below).filled.1)
 
-  one_sender : (k : ℕ) → AllByRecursion (λ s. s.sender ≡ (row p k).sender) (riders k left)
-  one_sender k =
-      riders_all k (λ s. s.sender ≡ (row p k).sender) left (All-weaker (Fair p) (λ e. e.frame ≡ k → e.signal.sender ≡ (row p k).sender) (λ e f q. f.of_sender ∙ ap (λ j. (row p j).sender) q) left fair_left)
+  -- its row alone is another
+  pub rows_left : set (rows p) gone (row_by (riders gone left)) ≡ rows (packed left p.frames)
+  rows_left = rows_set p.signals p.frames left gone _ gone_below refl same_riders
 
   -- the frame has signals left
   module _ (some : any_in gone left ≡ true) where
     lawful_left : Lawful (row_by (riders gone left))
     lawful_left =
         let r = riders_some gone left some in
-        let less : (row_by (riders gone left)).fill ≤ 64 = omega (arith, fill_without gone p.signals i within, (h.frames gone gone_below).filled.1) in
-        subst (λ ss. Lawful (row_by ss)) (sym r.2) (row_lawful r.0 r.1 (subst (AllByRecursion LawfulSignal) r.2 (riders_left gone)) (subst (λ ss. (row_by ss).fill ≤ 64) r.2 less))
+        subst (λ ss. Lawful (row_by ss)) (sym r.2) (row_lawful r.0 r.1 (subst (AllByRecursion LawfulSignal) r.2 (lawful_riders p left fair_left gone)) (subst (λ ss. (row_by ss).fill ≤ 64) r.2 fill_left))
 
     row_left : (k : ℕ) → k < p.frames → Lawful (row_by (riders k left))
     row_left k l = ⊎_elim {C = Lawful (row_by (riders k left))}
@@ -86,7 +85,7 @@ module _ (p : Packing) (i : ℕ) (h : Sound p) (within : i < length p.signals) w
     sender_left : (k : ℕ) → any_in k left ≡ true → (row_by (riders k left)).sender ≡ (row p k).sender
     sender_left k t =
         let r = riders_some k left t in
-        ap (λ ss. (row_by ss).sender) r.2 ∙ row_sender (row p k).sender r.0 r.1 (subst (AllByRecursion (λ s. s.sender ≡ (row p k).sender)) r.2 (one_sender k))
+        ap (λ ss. (row_by ss).sender) r.2 ∙ row_sender (row p k).sender r.0 r.1 (subst (AllByRecursion (λ s. s.sender ≡ (row p k).sender)) r.2 (one_sender p left fair_left k))
 
     sound_left : Sound (packed left p.frames)
     sound_left = record {
@@ -102,9 +101,18 @@ module _ (p : Packing) (i : ℕ) (h : Sound p) (within : i < length p.signals) w
     others : AllByRecursion (λ e. e.frame ≡ gone → ⊥) left
     others = none_in gone left none
 
+    riders_moved : (k : ℕ) → riders k (map (lower gone) left) ≡ riders (raised gone k) p.signals
+    riders_moved k =
+        riders_lowered gone k left others ∙ same_riders (raised gone k) (λ e. raised_other gone k (sym e))
+
     row_moved : (k : ℕ) → row_by (riders k (map (lower gone) left)) ≡ row p (raised gone k)
-    row_moved k =
-        ap row_by (riders_lowered gone k left others ∙ same_riders (raised gone k) (λ e. raised_other gone k (sym e)))
+    row_moved k = ap row_by (riders_moved k)
+
+    pub rows_moved : remove (rows p) gone ≡ rows (packed (map (lower gone) left) (p.frames - 1))
+    rows_moved =
+        rows_removed p.signals p.frames (map (lower gone) left) gone gone_below
+        (λ k l. riders_moved k ∙ ap (λ j. riders j p.signals) (cond-true _ _ _ (lt-ltb k gone l)))
+        (λ k l. riders_moved k ∙ ap (λ j. riders j p.signals) (cond-false _ _ _ (le-ltb k gone l) ∙ sym (add-one k)))
 
     fair_moved : (e : Entry) → Fair p e × (e.frame ≡ gone → ⊥) → Fair (packed (map (lower gone) left) (p.frames - 1)) (lower gone e)
     fair_moved e f = record {

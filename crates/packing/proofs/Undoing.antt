@@ -16,6 +16,7 @@ use Rattle.signals.proofs.Rowing.{row_nil}
 use Rattle.packing.specs.Laws.{Placeable}
 use Rattle.packing.specs.Packings.{Packing, packed, placed, closed_up, taken_out, found_out, withdrawn}
 use Rattle.packing.proofs.Lowering.{lower_none}
+use Rattle.packing.proofs.Placing.{none_past}
 use Rattle.packing.proofs.Sounds.{Sound, Fair}
 
 removed_push : {X : Type 0} (xs : List X) (x : X) → remove (xs ++ (x ∷ [])) (length xs) ≡ xs
@@ -31,8 +32,7 @@ module _ (p : Packing) (s : Signal) (n : ℕ) (h : Sound p) (may : Placeable p s
       true_from_ne_false (any_in n p.signals) (λ t. omega (arith, (h.frames n l).filled.0, ap (λ ss. (row_by ss).fill) (riders_none n p.signals (none_in n p.signals t)), ap (λ r. r.fill) row_nil))
 
   any_new : p.frames ≤ n → any_in n p.signals ≡ false
-  any_new l =
-      none_any n p.signals (All-weaker (Fair p) (λ e. e.frame ≡ n → ⊥) (λ e f q. omega (arith, f.within)) p.signals h.signals)
+  any_new l = none_any n p.signals (none_past p n h l)
 
   closes : closed_up n p.signals (max p.frames (suc n)) ≡ p
   closes = ⊎_elim {C = closed_up n p.signals (max p.frames (suc n)) ≡ p}

@@ -12,7 +12,7 @@ use Rattle.packing.specs.Laws.{Placeable, Lightest}
 use Rattle.packing.specs.Packings.{Packing, row, rows, rows_of, placed, packing_weight}
 use Rattle.packing.proofs.Chosen.{best_is}
 use Rattle.packing.proofs.Offers.{heavier}
-use Rattle.packing.proofs.Placing.{room_at}
+use Rattle.packing.proofs.Placing.{lawful_with, room_at}
 use Rattle.packing.proofs.Rowed.{rows_long, row_at, rows_joined, rows_opened}
 use Rattle.packing.proofs.Sounds.{Sound}
 use Rattle.std.proofs.lemmas.Option.{same_Some}
@@ -33,7 +33,7 @@ module _ (cost : ℕ → ℕ → ℕ) (up : (k p q : ℕ) → p ≤ q → q ≤ 
     unfolding placed rows_weight
     old_weight l =
         let m : max p.frames (suc n) ≡ p.frames = omega arith in
-        omega (arith, ap (λ k. sum_by (row_weight cost) (rows_of after k)) m, ap (sum_by (row_weight cost)) (rows_joined p.signals p.frames s n (row_with p n s) refl l), sum_by-set (row_weight cost) (rows p) n (row_with p n s) no_row (omega (arith, long)), ap (row_weight cost) (row_at p.signals p.frames n no_row l), heavier cost p s n h may.lawful (room_at p s n h may) up)
+        omega (arith, ap (λ k. sum_by (row_weight cost) (rows_of after k)) m, ap (sum_by (row_weight cost)) (rows_joined p.signals p.frames s n (row_with p n s) refl l), sum_by-set (row_weight cost) (rows p) n (row_with p n s) no_row (omega (arith, long)), ap (row_weight cost) (row_at p.signals p.frames n no_row l), heavier cost p s n (lawful_with p n s h may.lawful (room_at p s n h may)) up)
 
     -- a new frame: its row goes to the end
     new_weight : p.frames ≤ n → packing_weight cost (placed p s n) ≡ packing_weight cost p + row_weight cost (row_with p n s)

@@ -1,11 +1,12 @@
 -- The first no of a list of questions, and what a call then does. Assumes nothing.
-use Rattle.std.proofs.Common.{◌≡◌, ℕ, ◌<◌, ◌≤◌, Bool, true, false, cond, [], ◌∷◌, ◌++◌, length, is_some, Some, None, Ok, Err, Option, refl, ap, ◌∙◌, ap₂, arith}
+use Rattle.std.proofs.Common.{◌≡◌, ℕ, ◌<◌, ◌≤◌, Bool, true, false, cond, [], ◌∷◌, ◌++◌, length, List, is_some, Some, None, Option, MatchResult, sym, refl, ap, ◌∙◌, ap₂, arith}
 use Rattle.std.specs.Option.{ok_or}
 use Rattle.std.proofs.lemmas.Bool.{cond-true, cond-false, lt-ltb, le-ltb, not_from_true, not_from_false}
+use Rattle.signals.specs.declared.signal.Entry.{Entry}
 use Rattle.signals.specs.declared.signal.Signal.{Signal}
 use Rattle.signals.specs.Limits.{LawfulSignal}
 use Rattle.signals.specs.Names.{place_of}
-use Rattle.signals.proofs.Finding.{not_found}
+use Rattle.signals.proofs.Finding.{not_found, found_within}
 use Rattle.packing.specs.declared.choice.Choice.{Choice}
 use Rattle.packing.specs.Choices.{choice}
 use Rattle.packing.specs.Packings.{Packing, placed, withdrawn, found_out}
@@ -16,12 +17,13 @@ use Rattle.plan.specs.declared.fault.PlanFault.TheVariants.{NameTaken, SignalsFu
 use Rattle.plan.specs.Drafts.{chosen, unless, entered}
 use Rattle.plan.specs.Questions.{Questions, first_no, figure_questions, place_questions, enter_questions, name_questions, Asked}
 
--- what was found, where a name that is not found is a fault
-pub found_ok : {X : Type 0} (o : Option X) (f : PlanFault) (x : X) → ok_or o f ≡ Ok x → o ≡ Some x
-found_ok o f x e = grind arith
-
-pub found_err : {X : Type 0} (o : Option X) (f g : PlanFault) → ok_or o f ≡ Err g → (o ≡ None) × (g ≡ f)
-found_err o f g e = grind arith
+-- where a name stands among the signals, or the fault that it is unknown
+pub looked_up : (name : ℕ) (ss es : List Entry) (o : Option ℕ) → es ≡ ss → o ≡ place_of name 0 es → MatchResult (ok_or o NameUnknown) (λ i. (place_of name 0 ss ≡ Some i) × (i < length ss)) (λ e. (e ≡ NameUnknown) × (place_of name 0 ss ≡ None))
+looked_up name ss es o same found = go o (sym (found ∙ ap (place_of name 0) same))
+  where
+    go : (o : Option ℕ) → place_of name 0 ss ≡ o → MatchResult (ok_or o NameUnknown) (λ i. (place_of name 0 ss ≡ Some i) × (i < length ss)) (λ e. (e ≡ NameUnknown) × (place_of name 0 ss ≡ None))
+    go None e = (refl, e)
+    go (Some i) e = (e, omega (arith, (found_within name 0 i ss e).1))
 
 -- the questions of a list come before those of another
 abbrev or_else : Option PlanFault → Option PlanFault → Option PlanFault
@@ -40,32 +42,42 @@ no_after : (xs ys : Questions) (o : Option PlanFault) → first_no xs ≡ None �
 no_after xs ys o e f = first_no_append xs ys ∙ ap (λ p. or_else p (first_no ys)) e ∙ f
 
 module _ (domains : ℕ) (cost : ℕ → ℕ → ℕ) (p : Packing) (s : Signal) where
-  pub no_figure : (f : PlanFault) → first_no (figure_questions domains s) ≡ Some f → first_no (enter_questions domains cost p s) ≡ Some f
+  pub no_figure : (count : ℕ) (f : PlanFault) → count ≡ domains → Some f ≡ first_no (figure_questions count s) → first_no (enter_questions domains cost p s) ≡ Some f
   unfolding enter_questions
-  no_figure f e =
-      first_no_append (figure_questions domains s) (place_questions cost p s) ∙ ap (λ o. or_else o (first_no (place_questions cost p s))) e
+  no_figure count f all e =
+      first_no_append (figure_questions domains s) (place_questions cost p s) ∙ ap (λ o. or_else o (first_no (place_questions cost p s))) (ap (λ n. first_no (figure_questions n s)) (sym all) ∙ sym e)
 
-  module _ (figures : first_no (figure_questions domains s) ≡ None) where
-    pub no_name : is_some (place_of s.name 0 p.signals) ≡ true → first_no (enter_questions domains cost p s) ≡ Some NameTaken
+  -- once the figures are asked about over as many domains, and the name is looked for among the signals
+  module _ (count : ℕ) (all : count ≡ domains) (figures : None ≡ first_no (figure_questions count s)) (es : List Entry) (same : es ≡ p.signals) (o : Option ℕ) (found : o ≡ place_of s.name 0 es) where
+    no_figures : first_no (figure_questions domains s) ≡ None
+    no_figures = ap (λ n. first_no (figure_questions n s)) (sym all) ∙ sym figures
+
+    named : is_some o ≡ is_some (place_of s.name 0 p.signals)
+    named = ap is_some (found ∙ ap (place_of s.name 0) same)
+
+    pub no_name : is_some o ≡ true → first_no (enter_questions domains cost p s) ≡ Some NameTaken
     unfolding enter_questions
     no_name e =
-        no_after (figure_questions domains s) (place_questions cost p s) _ figures (cond-false _ _ _ (not_from_true _ e))
+        no_after (figure_questions domains s) (place_questions cost p s) _ no_figures (cond-false _ _ _ (not_from_true _ (sym named ∙ e)))
 
-    module _ (free : is_some (place_of s.name 0 p.signals) ≡ false) where
+    module _ (free : is_some o ≡ false) where
+      unnamed : is_some (place_of s.name 0 p.signals) ≡ false
+      unnamed = sym named ∙ free
+
       pub no_room : 256 ≤ length p.signals → first_no (enter_questions domains cost p s) ≡ Some SignalsFull
       unfolding enter_questions
       no_room l =
-          no_after (figure_questions domains s) (place_questions cost p s) _ figures (cond-true _ _ _ (not_from_false _ free) ∙ cond-false _ _ _ (le-ltb _ _ l))
+          no_after (figure_questions domains s) (place_questions cost p s) _ no_figures (cond-true _ _ _ (not_from_false _ unnamed) ∙ cond-false _ _ _ (le-ltb _ _ l))
 
-      by_choice : (o : Option Choice) → length p.signals < 256 → choice cost p s ≡ o → first_no (enter_questions domains cost p s) ≡ cond (is_some o) None (Some FramesFull)
+      by_choice : (c : Option Choice) → length p.signals < 256 → choice cost p s ≡ c → first_no (enter_questions domains cost p s) ≡ cond (is_some c) None (Some FramesFull)
       unfolding enter_questions
-      by_choice o l e =
-          no_after (figure_questions domains s) (place_questions cost p s) _ figures (cond-true _ _ _ (not_from_false _ free) ∙ cond-true _ _ _ (lt-ltb _ _ l) ∙ ap (λ c. cond (is_some c) None (Some FramesFull)) e)
+      by_choice c l e =
+          no_after (figure_questions domains s) (place_questions cost p s) _ no_figures (cond-true _ _ _ (not_from_false _ unnamed) ∙ cond-true _ _ _ (lt-ltb _ _ l) ∙ ap (λ d. cond (is_some d) None (Some FramesFull)) e)
 
-      pub all_asked : Sound p → LawfulSignal s → length p.signals < 256 → (o : Option Choice) → choice cost p s ≡ o → Asked domains cost p s (ok_or o FramesFull)
+      pub all_asked : Sound p → LawfulSignal s → length p.signals < 256 → (c : Option Choice) → choice cost p s ≡ c → Asked domains cost p s (ok_or c FramesFull)
       all_asked h l few None e = by_choice None few e
       all_asked h l few (Some c) e =
-          (by_choice (Some c) few e, e, choice_placeable cost p s c h l few (not_found s.name 0 p.signals (grind arith)) e)
+          (by_choice (Some c) few e, e, choice_placeable cost p s c h l few (not_found s.name 0 p.signals (let no = unnamed in grind arith)) e)
 
   -- what enter does
   pub enter_refused : (f : PlanFault) → first_no (enter_questions domains cost p s) ≡ Some f → entered domains cost p s ≡ p

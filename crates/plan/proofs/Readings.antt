@@ -2,7 +2,6 @@
 use Rattle.std.proofs.Common.{◌≡◌, ℕ, zero, suc, ◌+◌, ◌<◌, ◌≤◌, Bool, true, false, List, [], ◌∷◌, length, get_or, take, Some, None, Ok, Err, is_ok, Result, sym, refl, ap, ◌∙◌, ap₂, arith}
 use Rattle.std.proofs.lemmas.Bool.Decides.{nat_tests}
 use Rattle.std.specs.List.{AllByRecursion}
-use Rattle.std.proofs.lemmas.List.FromFn.{length-map-range_with_len}
 use Rattle.std.proofs.ByRecursion.{All-weaker}
 use Rattle.std.proofs.lemmas.List.{length-take-le, get_or-take}
 use Rattle.std.proofs.lemmas.Bool.{cond-true, lt-ltb}
@@ -17,7 +16,7 @@ use Rattle.domains.specs.declared.place.Place.TheVariants.{Above}
 use Rattle.shelf.specs.Numbers.{chosen}
 use Rattle.shelf.proofs.Numbering.{chosen_from}
 use Rattle.signals.specs.Names.{place_of, no_entry}
-use Rattle.packing.specs.Packings.{Packing, row, rows}
+use Rattle.packing.specs.Packings.{Packing}
 use Rattle.ordering.specs.declared.conflicts.Conflict.{Conflict}
 use Rattle.timing.specs.Places.{is_above, above}
 use Rattle.plan.specs.declared.fault.PlanFault.TheVariants.{NameUnknown}
@@ -30,9 +29,6 @@ use Rattle.plan.specs.Said.{unless_refused}
 use Rattle.plan.specs.Said.Said.{gives, refuses}
 use Rattle.plan.specs.Stands.{among}
 use Rattle.plan.proofs.Asking.{unknown, known}
-
-pub rows_long : (p : Packing) → length (rows p) ≡ p.frames
-rows_long p = length-map-range_with_len (row p) 0 p.frames
 
 -- whether a number was chosen
 among_none : (k : ℕ) (xs : List ℕ) → AllByRecursion (λ y. k < y) xs → among k xs ≡ false

@@ -2,7 +2,6 @@
 use Rattle.std.proofs.Common.{◌≡◌, ℕ, ◌+◌, ◌<◌, ◌≤◌, true, List, [], ◌∷◌, ◌++◌, map, length, Some, None, Option, sym, refl, ap, ◌∙◌, subst, ap₂, arith}
 use Rattle.std.proofs.lemmas.Bool.Decides.{nat_tests}
 use Rattle.std.specs.List.{AllByRecursion}
-use Rattle.std.proofs.lemmas.List.FromFn.{get_or-map-range_with_len}
 use Rattle.std.proofs.ByRecursion.{All-weaker}
 use Rattle.std.proofs.lemmas.List.{length-map, map-append}
 use Rattle.std.proofs.lemmas.Bool.{cond-true, lt-ltb}
@@ -30,7 +29,7 @@ use Rattle.plan.specs.Said.Said.{gives}
 use Rattle.plan.specs.Stands.{place_in}
 use Rattle.plan.specs.Stands.Stands.{order}
 use Rattle.plan.specs.Subject.{InTime, MeetsAll, HasOrder, rows_at, Heard, Upheld}
-use Rattle.plan.proofs.Readings.{rows_long}
+use Rattle.packing.proofs.Rowed.{rows_long, row_at as gathered_row}
 use Rattle.plan.proofs.Wording.{to_meets, to_order, from_order, greedy_picked, shrink_filtered}
 
 place_split : (n : ℕ) (us ls : List ℕ) → Apart (us ++ (n ∷ ls)) → place_in n (us ++ (n ∷ ls)) ≡ length us
@@ -46,7 +45,7 @@ all_split P (u ∷ us) n ls h = let k = all_split P us n ls h.1 in ((h.0, k.0), 
 module _ (p : Packing) where
   -- a frame that there is
   pub row_there : (n : ℕ) → n < p.frames → row_at (rows p) n ≡ row p n
-  row_there n h = get_or-map-range_with_len (row p) 0 p.frames n n no_row h (omega arith)
+  row_there n h = gathered_row p.signals p.frames n no_row h
 
   rows_same : (ns : List ℕ) → AllByRecursion (λ n. n < p.frames) ns → map (row p) ns ≡ rows_at p ns
   rows_same [] h = refl
@@ -56,7 +55,7 @@ module _ (p : Packing) where
   module _ (few : p.frames ≤ 96) (o : List ℕ) (once : Perm (numbers 0 (rows p)) o) (us : List ℕ) (n : ℕ) (ls : List ℕ) (split : o ≡ us ++ (n ∷ ls)) where
     each_below : AllByRecursion (λ i. i < p.frames) us × (n < p.frames) × AllByRecursion (λ i. i < p.frames) ls
     each_below =
-        let a = All-weaker (λ i. i < 0 + length (rows p)) (λ i. i < p.frames) (λ i l. omega (arith, rows_long p)) (numbers 0 (rows p)) (numbers_below 0 (rows p)) in
+        let a = All-weaker (λ i. i < 0 + length (rows p)) (λ i. i < p.frames) (λ i l. omega (arith, rows_long p.signals p.frames)) (numbers 0 (rows p)) (numbers_below 0 (rows p)) in
         all_split (λ i. i < p.frames) us n ls (subst (AllByRecursion (λ i. i < p.frames)) split (all_perm (λ i. i < p.frames) a once))
 
     at_place : place_in n o ≡ length us
@@ -75,7 +74,7 @@ module _ (p : Packing) where
         ap (map (row p)) split ∙ map-append (row p) us (n ∷ ls) ∙ ap₂ (λ a b. a ++ (row p n ∷ b)) (rows_same us each_below.0) (rows_same ls each_below.2)
 
     long : length (rows_at p us ++ (row p n ∷ rows_at p ls)) ≤ 96
-    long = omega (arith, ap length lined, length-map o (row p), perm_length once, length_numbers 0 (rows p), rows_long p)
+    long = omega (arith, ap length lined, length-map o (row p), perm_length once, length_numbers 0 (rows p), rows_long p.signals p.frames)
 
     module _ (m : Bank) (k : ℕ) (c : carried k (row p n) ≡ true) where
       response_here : response_of m p o n k ≡ response_in m.response k (row p n) (rows_at p us) (rows_at p ls)

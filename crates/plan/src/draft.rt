@@ -10,11 +10,10 @@ ghost use Rattle.plan.specs.Stands.Stands.{nothing};
 
 use crate::closed::{Closed, Standing};
 use crate::fault::PlanFault;
-use crate::questions::ask;
+use crate::questions::{ask, find_signal};
 use crate::weight::plan_weight;
 use domains::domain::Domain;
 use packing::tables::Tables;
-use signals::entries::find;
 use signals::signal::Signal;
 
 #[derive(Drop)]
@@ -57,7 +56,7 @@ impl<B: Domain> Draft<B> {
         ensures bank { self.new.bank ≡ self.old.bank }
         ensures packed { WellPacked (held self.new.tables) }
     {
-        let i = find(self.tables.entries(), name).ok_or(PlanFault::NameUnknown)?;
+        let i = find_signal(&self.tables, name)?;
         self.tables.take_out(i);
         Ok(())
     }

@@ -1,7 +1,9 @@
-// The questions of enter, in order. The first that is answered with no refuses the call.
-ghost use Rattle.std.specs.Prelude.{◌≡◌, ◌≤◌, OnOk};
+// The questions of enter, in order, of which the first that is answered with no refuses the call; and that of a name.
+ghost use Rattle.std.specs.Prelude.{◌≡◌, ◌<◌, ◌≤◌, length, Some, None, MatchResult, OnOk};
 ghost use Rattle.signals.specs.Limits.{LawfulSignal};
+ghost use Rattle.signals.specs.Names.{place_of};
 ghost use Rattle.packing.specs.Holds.{held};
+ghost use Rattle.plan.specs.declared.fault.PlanFault.TheVariants.{NameUnknown};
 ghost use Rattle.plan.specs.Questions.{figure_questions, first_no, fault_of, Asked};
 
 use crate::fault::PlanFault;
@@ -32,7 +34,14 @@ fn check_figures(domains: usize, signal: &Signal) -> Result<(), PlanFault>
     Ok(())
 }
 
-// All of them. The answer is the choice of a frame.
+// The place of the signal of that name.
+pub(crate) fn find_signal(tables: &Tables, name: u16) -> Result<usize, PlanFault>
+    ensures { let signals = (held tables.now).signals in MatchResult result (λ i. (place_of name 0 signals ≡ Some i) × (i < length signals)) (λ e. (e ≡ NameUnknown) × (place_of name 0 signals ≡ None)) }
+{
+    find(tables.entries(), name).ok_or(PlanFault::NameUnknown)
+}
+
+// All questions of enter. The answer is the choice of a frame.
 pub(crate) fn ask<D: Domain>(
     bank: &D,
     tables: &Tables,

@@ -14,7 +14,7 @@ use Rattle.packing.specs.Laws.{Carries, WellPacked}
 use Rattle.packing.specs.Packings.{Packing, row, rows}
 use Rattle.plan.specs.Banks.{Bank}
 use Rattle.plan.specs.Subject.{OrderStands}
-use Rattle.plan.proofs.Readings.{rows_long}
+use Rattle.packing.proofs.Rowed.{rows_long}
 use Rattle.runs.specs.Lives.{Rides, Reaches}
 use Rattle.runs.proofs.Living.{signals_of}
 use Rattle.std.proofs.lemmas.Bool.{cases_eq}
@@ -62,7 +62,7 @@ module _ (p : Packing) (well : WellPacked p) where
       let r = rides s h in
       let n = r.frame in
       let z : 0 + n ≡ n = omega arith in
-      let i = number_in 0 n (rows p) (omega (arith, rows_long p, r.exists)) in
+      let i = number_in 0 n (rows p) (omega (arith, rows_long p.signals p.frames, r.exists)) in
       let t = taken stands.once (subst (λ k. Pick k (numbers 0 (rows p)) i.0) z i.1) in
       let c = pick_split t.1 in
       record {

@@ -1,16 +1,20 @@
 // What the tables hold, one signal more, and one out.
-ghost use Rattle.std.specs.Prelude.{◌≡◌, ℕ, ◌+◌, ◌<◌, ◌≤◌, [], ◌∷◌, ◌++◌, length, slice_set};
+ghost use Rattle.std.specs.Prelude.{◌≡◌, ◌+◌, ◌<◌, ◌≤◌, [], ◌∷◌, ◌++◌, length, slice_set};
+ghost use Rattle.std.specs.List.{AllByRecursion};
+ghost use Rattle.frames.specs.Limits.{Lawful};
+ghost use Rattle.signals.specs.Limits.{LawfulSignal};
 ghost use Rattle.signals.specs.Riders.{riders};
 ghost use Rattle.signals.specs.Rows.{row_by};
 ghost use Rattle.packing.specs.Holds.{held};
 ghost use Rattle.packing.specs.Laws.{Placeable, WellPacked};
-ghost use Rattle.packing.specs.Packings.{packed, row, rows, rows_of, placed, taken_out};
+ghost use Rattle.packing.specs.Packings.{packed, row, rows, placed, taken_out};
 
 use crate::table::SignalTable;
 use crate::tables::Tables;
 use arrayvec::ArrayVec;
 use frames::limits::MAX_FRAMES;
 use frames::row::Row;
+use signals::entries::has_rider;
 use signals::gather::{BLANK, gather, join};
 use signals::signal::{Entry, Signal};
 
@@ -49,14 +53,17 @@ impl Tables {
 
     // The rows of the frames, in list order.
     pub fn frame_rows(&self) -> &[Row]
-        ensures { result.now ≡ rows (held self.now) }
+        ensures is { result.now ≡ rows (held self.now) }
+        ensures few { length result.now ≤ 96 }
+        ensures lawful { AllByRecursion Lawful result.now }
     {
         self.rows.as_slice()
     }
 
     // The row of frame n; past the last frame, a blank one.
     pub fn row(&self, n: usize) -> Row
-        ensures { result ≡ row (held self.now) n }
+        ensures is { result ≡ row (held self.now) n }
+        ensures lawful { n < (held self.now).frames → Lawful result }
     {
         self.rows.get(n).copied().unwrap_or(BLANK)
     }
@@ -64,7 +71,8 @@ impl Tables {
     // The row that frame n would have with the signal in it.
     pub(crate) fn row_with(&self, n: usize, signal: &Signal) -> Row
         requires { (row (held self.now) n).fill + signal.now.size ≤ 64 }
-        ensures { result ≡ row_by (riders n (held self.now).signals ++ (signal.now ∷ [])) }
+        ensures is { result ≡ row_by (riders n (held self.now).signals ++ (signal.now ∷ [])) }
+        ensures lawful { LawfulSignal signal.now → Lawful result }
     {
         join(&self.row(n), signal)
     }
@@ -79,14 +87,19 @@ impl Tables {
         self.signals.entries.push(Entry { signal, frame: n });
     }
 
-    // Takes the signal at place i out.
+    // Takes the signal at place i out. Its frame's row alone is gathered anew, or leaves where no signal rides there.
     pub fn take_out(&mut self, i: usize)
         requires { i < length (held self.old).signals }
         ensures { held self.new ≡ taken_out (held self.old) i }
     {
         let gone = self.signals.entries.remove(i);
-        let frames = self.signals.leave(gone.frame, self.rows.len());
-        self.rows = gather_all(&self.signals.entries, frames);
+        let f = gone.frame;
+        if has_rider(&self.signals.entries, f) {
+            put(&mut self.rows, f, gather(&self.signals.entries, f));
+        } else {
+            self.signals.close_up(f);
+            self.rows.remove(f);
+        }
     }
 }
 
@@ -101,18 +114,4 @@ fn put(rows: &mut ArrayVec<Row, MAX_FRAMES>, n: usize, row: Row)
         Some(old) => *old = row,
         None => rows.push(row),
     }
-}
-
-// The rows of the first n frames.
-fn gather_all(entries: &[Entry], n: usize) -> ArrayVec<Row, MAX_FRAMES>
-    requires room { n ≤ 96 }
-    requires fills { (k : ℕ) → k < n → (row_by (riders k entries.now)).fill ≤ 64 }
-    ensures { result.items ≡ rows_of entries.now n }
-{
-    let mut rows = ArrayVec::new();
-    // By the number of the frame, of which there is no list to go over.
-    for k in 0..n {
-        rows.push(gather(entries, k));
-    }
-    rows
 }

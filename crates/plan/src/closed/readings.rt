@@ -14,12 +14,12 @@ ghost use Rattle.plan.specs.Stands.{is_order};
 use crate::closed::line::{line_up, place_of};
 use crate::closed::{Closed, Standing};
 use crate::fault::PlanFault;
+use crate::questions::find_signal;
 use crate::weight::plan_weight;
 use domains::domain::Domain;
 use domains::place::Place;
 use frames::frame::Frame;
 use ordering::orders::Placement;
-use signals::entries::find;
 use timing::carried::carries;
 use timing::ranked::response_at;
 
@@ -51,9 +51,8 @@ impl<B: Domain> Closed<B> {
     pub fn frame_of(&self, name: u16) -> Result<usize, PlanFault>
         ensures { told (λ n. n ∷ []) result ≡ frame_says (held self.now.tables) name }
     {
-        let entries = self.tables.entries();
-        let i = find(entries, name).ok_or(PlanFault::NameUnknown)?;
-        Ok(entries[i].frame)
+        let i = find_signal(&self.tables, name)?;
+        Ok(self.tables.entries()[i].frame)
     }
 
     // The record of frame n.

@@ -1,10 +1,7 @@
 use native.Mathlib.Nat.{sub-zero}
-use Rattle.timing.specs.Everywhere.{everywhere}
 use Rattle.timing.proofs.Combining.{everywhere_laws}
 use Rattle.std.proofs.Common.{◌<◌, length, sym, ◌∙◌, arith}
-use Rattle.timing.specs.Places.{above, tested}
-use Rattle.ordering.proofs.Greedy.{examined_most}
-use Rattle.ordering.proofs.Placing.{placing_none, placing_more, placing_end, frame_within}
+use Rattle.ordering.proofs.Placing.{placing_none, placing_few, placing_more, placing_end, frame_within}
 use Rattle.ordering.proofs.places.arrange.Goals as goal
 
 pub loop-places-init : goal.loop-places-init
@@ -12,16 +9,14 @@ loop-places-init g c =
     rw (c.new.ensures, sub-zero) (placing_none _ c.args.frames.now.rows.now c.args.places.now c.args.count c.requires.long c.args.frames.now.few c.requires.free c.requires.none)
 
 pub overflow_add-placement : goal.overflow_add-placement
-overflow_add-placement g c =
-    let test = tested (everywhere (g.B.Domain.response c.args.frames.now.bank.now)) c.args.frames.now.rows.now c.loop-places.places in
-    omega (arith, c.loop-places.invariant.few, c.loop-places.invariant.free, c.loop-places.invariant.whole, c.loop-places.invariant.most, c.examine-looked.ensures.examinations, examined_most test (above c.loop-places.places))
+overflow_add-placement g c = omega (arith, c.examine-looked.ensures.examinations, placing_few c.loop-places.invariant (omega arith))
 
 pub bounds-places-f : goal.bounds-places-f
-bounds-places-f g c = frame_within (tested (everywhere (g.B.Domain.response c.args.frames.now.bank.now)) c.args.frames.now.rows.now c.loop-places.places) c.loop-places.places c.in_ok-f.f (sym c.examine-looked.ensures.frame ∙ c.in_ok-f.was)
+bounds-places-f g c = frame_within _ _ _ (sym c.examine-looked.ensures.frame ∙ c.in_ok-f.was)
 
 pub overflow_cast-f : goal.overflow_cast-f
 overflow_cast-f g c =
-    let w = frame_within (tested (everywhere (g.B.Domain.response c.args.frames.now.bank.now)) c.args.frames.now.rows.now c.loop-places.places) c.loop-places.places c.in_ok-f.f (sym c.examine-looked.ensures.frame ∙ c.in_ok-f.was) in
+    let w = frame_within _ c.loop-places.places c.in_ok-f.f (sym c.examine-looked.ensures.frame ∙ c.in_ok-f.was) in
     omega arith
 
 pub loop-places-preserved : goal.loop-places-preserved

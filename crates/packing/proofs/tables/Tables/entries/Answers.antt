@@ -1,7 +1,5 @@
-use Rattle.packing.specs.Holds.{held}
-use Rattle.packing.proofs.Sounds.{to_sound}
-use Rattle.packing.proofs.Words.{well_packed}
+use Rattle.packing.proofs.Words.{held_packed}
 use Rattle.packing.proofs.tables.Tables.entries.Goals as goal
 
 pub returns-clause-packed : goal.returns-clause-packed
-returns-clause-packed c = well_packed (held c.args.self.now) (to_sound _ c.args.self.now.ok)
+returns-clause-packed c = held_packed c.args.self.now

@@ -1,24 +1,21 @@
-use Rattle.packing.specs.declared.table.SignalTable.{SignalTable}
 use Rattle.packing.specs.Holds.{held}
-use Rattle.packing.proofs.Keeping.{put_is, put_ok, put_kept}
+use Rattle.packing.specs.Packings.{placed}
+use Rattle.packing.proofs.Keeping.{Kept, put_in}
 use Rattle.packing.proofs.Placing.{room_at}
 use Rattle.packing.proofs.Sounds.{to_sound}
 use Rattle.packing.proofs.tables.Tables.place.Goals as goal
+use Rattle.packing.proofs.tables.Tables.place.Goals.{After-push}
 
 pub row_with-row-requires : goal.row_with-row-requires
 row_with-row-requires c =
     room_at (held c.args.self.now) c.args.signal c.args.n (to_sound _ c.args.self.now.ok) c.requires
 
+put : (c : goal.After-push) → Kept (placed (held c.args.self.now) c.args.signal c.args.n) c.push.new.self.items c.put.new.rows.items
+put c =
+    put_in c.args.self.now c.args.signal c.args.n c.requires _ _ _ c.push.ensures.items c.row_with-row.ensures.is c.put.ensures.old c.put.ensures.next
+
 pub invariant_of-self : goal.invariant_of-self
-invariant_of-self c =
-    let signals : SignalTable = record { entries = c.push.new.self } in
-    let rows = c.put.new.rows.items in
-    let e = c.put.ensures in
-    record {
-      ok = put_ok c.args.self.now c.args.signal c.args.n c.requires signals rows _ c.push.ensures.items c.row_with-row.ensures e.old e.next;
-      kept = put_kept c.args.self.now c.args.signal c.args.n c.requires signals rows _ c.push.ensures.items c.row_with-row.ensures e.old e.next;
-    }
+invariant_of-self c = record { ok = (put c).ok; kept = (put c).kept }
 
 pub returns : goal.returns
-returns c =
-    put_is c.args.self.now c.args.signal c.args.n c.requires (record { entries = c.push.new.self }) c.put.new.rows.items _ c.push.ensures.items c.row_with-row.ensures c.put.ensures.old c.put.ensures.next
+returns c = (put (goal.at.returns c).After-push).is

@@ -1,33 +1,49 @@
-use Rattle.std.proofs.Common.{ap, ◌∙◌, arith}
-use Rattle.signals.specs.Riders.{riders}
+use Rattle.std.proofs.Common.{◌≤◌, set, sym, ap, ◌∙◌, subst, arith}
+use Rattle.signals.specs.Riders.{riders, any_in}
 use Rattle.signals.specs.Rows.{row_by}
-use Rattle.packing.specs.Packings.{rows_of}
-use Rattle.packing.proofs.Keeping.{out_some, out_sound, out_held, out_ok, out_kept}
+use Rattle.packing.specs.Holds.{held}
+use Rattle.packing.specs.Packings.{taken_out}
+use Rattle.packing.proofs.Keeping.{Kept, out_below, out_fill, stays, leaves}
 use Rattle.packing.proofs.tables.Tables.take_out.Goals as goal
+use Rattle.packing.proofs.tables.Tables.take_out.Goals.{After-put, After-remove}
 
-pub leave-frames-requires : goal.leave-frames-requires
-leave-frames-requires c = omega (arith, c.len.ensures.value, out_some c.args.self.now c.args.i c.requires)
-
-pub gather_all-self-requires : goal.gather_all-self-requires
-gather_all-self-requires c =
+pub gather-requires : goal.gather-requires
+gather-requires c =
     let e = c.remove-gone.ensures in
-    let s = out_sound c.args.self.now c.args.i c.requires _ _ _ e.value e.items c.len.ensures.value _ _ c.leave-frames.ensures in
-    record {
-      room = s.room;
-      fills = λ k l. omega (arith, ap (λ es. (row_by (riders k es)).fill) c.deref.ensures.0, (s.frames k l).filled.1);
-    }
+    subst (λ es. (row_by (riders c.remove-gone.result.frame es)).fill ≤ 64) (sym c.deref-then-has_rider.ensures.0) (out_fill c.args.self.now c.args.i c.requires _ _ e.value e.items)
+
+pub put-requires : goal.put-requires
+put-requires c =
+    let e = c.remove-gone.ensures in
+    let below = out_below c.args.self.now c.args.i c.requires _ _ e.value e.items in
+    record { near = omega (arith, below.0); room = omega (arith, below.0, below.1) }
+
+-- the frame stays
+stayed : (c : goal.After-put) → Kept (taken_out (held c.args.self.now) c.args.i) c.remove-gone.new.self.items c.put.new.rows.items
+stayed c =
+    let e = c.remove-gone.ensures in
+    stays c.args.self.now c.args.i c.requires _ _ e.value e.items (ap (any_in _) (sym c.deref.ensures.0) ∙ sym c.if-has_rider.ensures) _
+    (c.put.ensures.old (out_below c.args.self.now c.args.i c.requires _ _ e.value e.items).0 ∙ ap (set _ _) (c.gather.ensures ∙ ap (λ es. row_by (riders c.remove-gone.result.frame es)) c.deref-then-has_rider.ensures.0))
 
 pub invariant_of-self : goal.invariant_of-self
-invariant_of-self c =
-    let e = c.remove-gone.ensures in
-    let given = c.gather_all-self.ensures ∙ ap (λ es. rows_of es c.leave-frames.result) c.deref.ensures.0 in
-    record {
-      ok = out_ok c.args.self.now c.args.i c.requires _ _ _ e.value e.items c.len.ensures.value _ _ c.leave-frames.ensures _ given;
-      kept = out_kept c.args.self.now c.args.i c.requires _ _ _ e.value e.items c.len.ensures.value _ _ c.leave-frames.ensures _ given;
-    }
+invariant_of-self c = record { ok = (stayed c).ok; kept = (stayed c).kept }
 
-pub returns : goal.returns
-returns c =
+pub returns-then-has_rider : goal.returns-then-has_rider
+returns-then-has_rider c = (stayed (goal.at.returns-then-has_rider c).After-put).is
+
+pub remove-requires : goal.remove-requires
+remove-requires c =
     let e = c.remove-gone.ensures in
-    let given = c.gather_all-self.ensures ∙ ap (λ es. rows_of es c.leave-frames.result) c.deref.ensures.0 in
-    out_held c.args.self.now c.args.i c.requires _ _ _ e.value e.items c.len.ensures.value _ _ c.leave-frames.ensures _ given
+    (omega arith, (out_below c.args.self.now c.args.i c.requires _ _ e.value e.items).0)
+
+-- the frame leaves
+left : (c : goal.After-remove) → Kept (taken_out (held c.args.self.now) c.args.i) c.close_up.new.self.entries.items c.remove.new.self.items
+left c =
+    let e = c.remove-gone.ensures in
+    leaves c.args.self.now c.args.i c.requires _ _ e.value e.items (ap (any_in _) (sym c.deref.ensures.0) ∙ sym c.if-has_rider.ensures) _ c.close_up.ensures _ c.remove.ensures.items
+
+pub invariant_of-self-else-has_rider : goal.invariant_of-self-else-has_rider
+invariant_of-self-else-has_rider c = record { ok = (left c).ok; kept = (left c).kept }
+
+pub returns-else-has_rider : goal.returns-else-has_rider
+returns-else-has_rider c = (left (goal.at.returns-else-has_rider c).After-remove).is

@@ -7,7 +7,7 @@ use Rattle.packing.specs.Packings.{withdrawn}
 use Rattle.packing.proofs.Sounds.{to_sound}
 use Rattle.packing.proofs.Undoing.{undone}
 use Rattle.packing.proofs.Weighty.{lightest}
-use Rattle.packing.proofs.Words.{well_packed}
+use Rattle.packing.proofs.Words.{held_packed}
 use Rattle.plan.specs.Said.{unless_refused}
 use Rattle.plan.proofs.Asking.{enter_refused, enter_done}
 use Rattle.plan.proofs.draft.Draft.enter.Goals as goal
@@ -20,7 +20,7 @@ returns-in_err-choice g c =
       says = rw (e.1, e.2) (sym (ap (unless_refused []) c.in_err-choice.ensures));
       holds = sym (enter_refused _ _ p c.args.signal _ c.in_err-choice.ensures);
       bank = refl;
-      packed = well_packed p (to_sound _ c.args.self.now.tables.ok);
+      packed = held_packed c.args.self.now.tables;
       lightest = rw e.1 tt;
       undone = rw e.1 tt;
     }
@@ -35,7 +35,7 @@ returns g c =
       says = sym (ap (unless_refused []) asked.0);
       holds = c.place.ensures ∙ sym (enter_done _ _ p s _ asked.0 asked.1);
       bank = refl;
-      packed = well_packed _ (to_sound _ c.place.new.self.ok);
+      packed = held_packed c.place.new.self;
       lightest = subst (Lightest _ p s) (sym c.place.ensures) (lightest (g.B.Domain.cost c.args.self.now.bank) (cost_grows _ _ _ g.met.B.Domain.duties c.args.self.now.bank) p s h _ asked.1 asked.2);
       undone = ap (λ q. withdrawn q s.name) c.place.ensures ∙ undone p s _ h asked.2;
     }
