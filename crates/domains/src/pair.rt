@@ -1,5 +1,6 @@
 // Two domains side by side are again a domain: the first numbers are the first's.
-ghost use Rattle.std.specs.Prelude.{◌≡◌, None};
+ghost use Rattle.std.specs.Prelude.{◌≡◌, Some, None};
+ghost use Rattle.domains.specs.declared.pair.Side.TheVariants.{First, Second};
 ghost use Rattle.domains.specs.Pairs.{pair_count, by_number};
 ghost use Rattle.domains.specs.Pairing.{pair_duties};
 
@@ -13,12 +14,32 @@ pub struct Pair<A, B> {
     second: B,
 }
 
+// The half that a number of the pair falls to, with the number that it has there.
+enum Side {
+    First(usize),
+    Second(usize),
+}
+
 impl<A: Domain, B: Domain> Pair<A, B> {
     pub fn new(first: A, second: B) -> Pair<A, B>
         ensures first { result.first ≡ first }
         ensures second { result.second ≡ second }
     {
         Pair { first, second }
+    }
+
+    fn side(&self, k: usize) -> Option<Side>
+        ensures { result ≡ by_number (A.Domain.count self.now.first) k (λ j. Some (First j)) (λ j. Some (Second j)) None }
+    {
+        if k >= MOST_DOMAINS {
+            return None;
+        }
+        let n = self.first.count();
+        Some(if k < n {
+            Side::First(k)
+        } else {
+            Side::Second(k - n)
+        })
     }
 }
 
@@ -36,27 +57,17 @@ impl<A: Domain, B: Domain> Domain for Pair<A, B> {
     }
 
     fn cost(&self, k: usize, frame: &Frame) -> u64 {
-        if k >= MOST_DOMAINS {
-            return 0;
-        }
-        let n = self.first.count();
-        if k < n {
-            self.first.cost(k, frame)
-        } else {
-            self.second.cost(k - n, frame)
+        match self.side(k) {
+            Some(Side::First(j)) => self.first.cost(j, frame),
+            Some(Side::Second(j)) => self.second.cost(j, frame),
+            None => 0,
         }
     }
 
-    // The same sides as for a cost; a function that takes a closure for each would be longer than the branches.
     fn answer(&self, k: usize, question: &Question<'_>) -> Option<u64> {
-        if k >= MOST_DOMAINS {
-            return None;
-        }
-        let n = self.first.count();
-        if k < n {
-            self.first.answer(k, question)
-        } else {
-            self.second.answer(k - n, question)
+        match self.side(k)? {
+            Side::First(j) => self.first.answer(j, question),
+            Side::Second(j) => self.second.answer(j, question),
         }
     }
 }

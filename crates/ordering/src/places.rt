@@ -20,8 +20,8 @@ pub struct Looked {
 
 // The frames above, which have no place, in list order: the first that is in time gets it.
 pub(crate) fn examine<B: Domain>(trial: &Trial<B>) -> Looked
-    ensures frame { let places = trial.now.places.now in result.frame ≡ found (tested (everywhere (B.response trial.now.bank.now)) trial.now.rows.now places) (above places) }
-    ensures examinations { let places = trial.now.places.now in result.examinations ≡ examined (tested (everywhere (B.response trial.now.bank.now)) trial.now.rows.now places) (above places) }
+    ensures frame { let places = trial.now.places.now in result.frame ≡ found (tested (everywhere (B.response trial.now.frames.now.bank.now)) trial.now.frames.now.rows.now places) (above places) }
+    ensures examinations { let places = trial.now.places.now in result.examinations ≡ examined (tested (everywhere (B.response trial.now.frames.now.bank.now)) trial.now.frames.now.rows.now places) (above places) }
 {
     let mut examinations = 0;
     for (f, place) in trial.places.iter().enumerate() {
@@ -60,8 +60,8 @@ pub(crate) fn arrange<B: Domain>(
     };
     while placement.numbers.len() < count {
         let looked = examine(&Trial {
-            bank: frames.bank,
-            rows: frames.rows,
+            // Lent again, for no longer than the places.
+            frames: &*frames,
             places,
         });
         let f = looked.frame?;

@@ -22,23 +22,20 @@ pub struct Frames<'a, B> {
     pub ghost few: { length rows.now ≤ 96 },
 }
 
-// The same, with a table of where each frame stands, which changes while the rows stay. It is flat, since the compiler
-// refuses a trial in a loop that holds the frames by reference, and they are not copied.
+// The same, with a table of where each frame stands, which changes while the rows stay.
 #[derive(Drop)]
 pub struct Trial<'a, B> {
-    pub bank: &'a B,
-    pub rows: &'a [Row],
+    pub frames: &'a Frames<'a, B>,
     pub places: &'a [Place],
-    pub ghost few: { length rows.now ≤ 96 },
-    pub ghost long: { length places.now ≡ length rows.now },
+    pub ghost long: { length places.now ≡ length frames.now.rows.now },
 }
 
 impl<B: Domain> Trial<'_, B> {
     // Where domain k is told that frame i stands: a frame that it does not carry is absent.
     fn told_place(&self, k: usize, i: usize) -> Place
-        ensures { let rows = self.now.rows.now in let places = self.now.places.now in i < length rows → result ≡ (if carried k (row_at rows i) then slice_index_or places i Up else Gone) }
+        ensures { let rows = self.now.frames.now.rows.now in let places = self.now.places.now in i < length rows → result ≡ (if carried k (row_at rows i) then slice_index_or places i Up else Gone) }
     {
-        match self.rows.get(i) {
+        match self.frames.rows.get(i) {
             Some(row) if carries(k, row.set) => self.places[i],
             _ => Place::Absent,
         }
@@ -47,30 +44,30 @@ impl<B: Domain> Trial<'_, B> {
     // The table with the frames left out that domain k does not carry. It has a place for every number that there may
     // be; those past the rows are not asked about.
     fn told(&self, k: usize) -> [Place; MAX_FRAMES]
-        ensures { let rows = self.now.rows.now in let places = self.now.places.now in (j : ℕ) → j < length rows → slice_index_or result j Up ≡ (if carried k (row_at rows j) then slice_index_or places j Up else Gone) }
+        ensures { let rows = self.now.frames.now.rows.now in let places = self.now.places.now in (j : ℕ) → j < length rows → slice_index_or result j Up ≡ (if carried k (row_at rows j) then slice_index_or places j Up else Gone) }
     {
         array::from_fn(|i| self.told_place(k, i))
     }
 
     // How late frame f can be in domain k.
     pub(crate) fn response_in(&self, f: usize, k: usize) -> Option<u64>
-        requires { f < length self.now.rows.now }
-        ensures { let rows = self.now.rows.now in let places = self.now.places.now in result ≡ response_in (B.response self.now.bank.now) k (row_at rows f) (rows_above rows places f) (rows_below rows places f) }
+        requires { f < length self.now.frames.now.rows.now }
+        ensures { let rows = self.now.frames.now.rows.now in let places = self.now.places.now in result ≡ response_in (B.response self.now.frames.now.bank.now) k (row_at rows f) (rows_above rows places f) (rows_below rows places f) }
     {
         let table = self.told(k);
         let question = Question {
-            rows: self.rows,
+            rows: self.frames.rows,
             places: &table,
             frame: f,
         };
-        self.bank.answer(k, &question)
+        self.frames.bank.answer(k, &question)
     }
 
     // Whether frame f is in time in domain k, or not carried there.
     fn in_time_in(&self, f: usize, k: usize) -> bool
-        ensures { let rows = self.now.rows.now in let places = self.now.places.now in result ≡ in_domain (B.response self.now.bank.now) k (row_at rows f) (rows_above rows places f) (rows_below rows places f) }
+        ensures { let rows = self.now.frames.now.rows.now in let places = self.now.places.now in result ≡ in_domain (B.response self.now.frames.now.bank.now) k (row_at rows f) (rows_above rows places f) (rows_below rows places f) }
     {
-        match self.rows.get(f) {
+        match self.frames.rows.get(f) {
             Some(row) if carries(k, row.set) => in_time(self.response_in(f, k), row.deadline),
             _ => true,
         }
@@ -78,7 +75,7 @@ impl<B: Domain> Trial<'_, B> {
 
     // Whether frame f is in time in every domain of its set. A number that is not in the list is late nowhere.
     pub fn in_time(&self, f: usize) -> bool
-        ensures { let rows = self.now.rows.now in let places = self.now.places.now in result ≡ tested (everywhere (B.response self.now.bank.now)) rows places f }
+        ensures { let rows = self.now.frames.now.rows.now in let places = self.now.places.now in result ≡ tested (everywhere (B.response self.now.frames.now.bank.now)) rows places f }
     {
         (0..MOST_DOMAINS).all(|k| self.in_time_in(f, k))
     }

@@ -4,7 +4,7 @@ ghost use Rattle.domains.specs.declared.place.Place.TheVariants.{Above as Up, Be
 ghost use Rattle.timing.specs.Ranked.{response_at};
 
 use crate::carried::carries;
-use crate::everywhere::Trial;
+use crate::everywhere::{Frames, Trial};
 use domains::domain::Domain;
 use domains::place::Place;
 use frames::limits::MAX_FRAMES;
@@ -27,9 +27,9 @@ pub fn response_at<B: Domain>(bank: &B, k: usize, rows: &[Row], f: usize) -> Opt
     }
     // A place for every number that there may be.
     let table: [Place; MAX_FRAMES] = array::from_fn(|i| rank_of(f, i));
+    let frames = Frames { bank, rows };
     let trial = Trial {
-        bank,
-        rows,
+        frames: &frames,
         places: &table[..rows.len()],
     };
     trial.response_in(f, k)

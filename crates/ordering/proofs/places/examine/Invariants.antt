@@ -4,4 +4,4 @@ use Rattle.ordering.proofs.Looking.{Looking}
 use Rattle.ordering.proofs.places.examine.Given as goal
 
 abbrev pub invariant-loop-f : goal.invariant-loop-f
-invariant-loop-f g l = Looking is_above (tested (everywhere (g.B.Domain.response l.trial.bank.now)) l.trial.rows.now l.trial.places.now) l.trial.places.now l.f l.examinations
+invariant-loop-f g l = Looking is_above (tested (everywhere (g.B.Domain.response l.trial.frames.now.bank.now)) l.trial.frames.now.rows.now l.trial.places.now) l.trial.places.now l.f l.examinations
