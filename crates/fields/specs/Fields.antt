@@ -38,7 +38,8 @@ abbrev pub ended : Result (List ℕ × Bor (List ℕ)) FieldFault → Result (Li
 ended (Ok read) = Ok (read.0, read.1.now)
 ended (Err fault) = Err fault
 
--- what a reading comes to of one number of w digits that is written so: the number and what follows, or none where no number is written there
+-- what a reading comes to of one number below a bound, which is written so: the number and what follows it, or none where no
+-- such number is written there
 abbrev pub NumberRead : (ℕ → List ℕ) → ℕ → List ℕ → Option (ℕ × Bor (List ℕ)) → Type 0
-NumberRead written w s (Some read) = (read.0 < 16 ^ w) × (s ≡ written read.0 ++ read.1.now)
-NumberRead written w s None = (v : ℕ) (rest : List ℕ) → v < 16 ^ w → s ≢ written v ++ rest
+NumberRead written bound s (Some read) = (read.0 < bound) × (s ≡ written read.0 ++ read.1.now)
+NumberRead written bound s None = (v : ℕ) (rest : List ℕ) → v < bound → s ≢ written v ++ rest

@@ -1,7 +1,7 @@
 // Fields and the line feed after them, read from the front of a text.
-ghost use Rattle.std.specs.Prelude.{◌∷◌, ◌≤◌, IsTrue, nat_le};
+ghost use Rattle.std.specs.Prelude.{◌≡◌, ◌≢◌, ℕ, ◌^◌, ◌≤◌, List, [], ◌∷◌, IsTrue, MatchOption, nat_le};
 ghost use Rattle.std.specs.List.{list_all};
-ghost use Rattle.fields.specs.Hex.{hex};
+ghost use Rattle.fields.specs.Hex.{digit, hex};
 ghost use Rattle.fields.specs.Fields.{LineEnd, NumberRead, ended};
 
 use crate::digits::digit_value;
@@ -13,32 +13,48 @@ pub enum FieldFault {
     Feed(u8),
 }
 
+// One digit, and what follows it.
+fn read_digit(text: &[u8]) -> Option<(u8, &[u8])>
+    ensures { NumberRead (λ d. digit d ∷ []) 16 text.now result }
+{
+    let [byte, rest @ ..] = text else {
+        return None;
+    };
+    let digit = digit_value(*byte)?;
+    Some((digit, rest))
+}
+
 // A number of so many digits, and what follows it.
 fn read_digits(text: &[u8], width: u8) -> Option<(u32, &[u8])>
     requires { width ≤ 8 }
-    ensures { NumberRead (hex width) width text.now result }
+    ensures { NumberRead (hex width) (16 ^ width) text.now result }
 {
     let mut value = 0;
     let mut rest = text;
     for _ in 0..width {
-        let [byte, after @ ..] = rest else {
-            return None;
-        };
-        value = value * 16 + u32::from(digit_value(*byte)?);
+        let (digit, after) = read_digit(rest)?;
+        value = value * 16 + u32::from(digit);
         rest = after;
     }
     Some((value, rest))
 }
 
+// What follows a byte, where the text begins with it.
+fn after(text: &[u8], byte: u8) -> Option<&[u8]>
+    ensures { MatchOption result ((rest : List ℕ) → text.now ≢ byte ∷ rest) (λ rest. text.now ≡ byte ∷ rest.now) }
+{
+    match text {
+        [first, rest @ ..] if *first == byte => Some(rest),
+        _ => None,
+    }
+}
+
 // A space and a number of so many digits, and what follows them.
 fn read_field(text: &[u8], width: u8) -> Option<(u32, &[u8])>
     requires { width ≤ 8 }
-    ensures { NumberRead (λ v. 32 ∷ hex width v) width text.now result }
+    ensures { NumberRead (λ v. 32 ∷ hex width v) (16 ^ width) text.now result }
 {
-    match text {
-        [b' ', rest @ ..] => read_digits(rest, width),
-        _ => None,
-    }
+    read_digits(after(text, b' ')?, width)
 }
 
 // Fields of such widths and the line feed: their values, and what follows. The text is what follows the line's letter.
@@ -53,14 +69,14 @@ pub fn read_line_end<'a, const N: usize>(
     let mut values = [0; N];
     let mut rest = text;
     for (i, width) in widths.iter().enumerate() {
-        let Some((value, after)) = read_field(rest, *width) else {
+        let Some((value, more)) = read_field(rest, *width) else {
             return Err(FieldFault::Digits(i as u8 + 1));
         };
         values[i] = value;
-        rest = after;
+        rest = more;
     }
-    match rest {
-        [b'\n', after @ ..] => Ok((values, after)),
-        _ => Err(FieldFault::Feed(N as u8 + 1)),
+    match after(rest, b'\n') {
+        Some(rest) => Ok((values, rest)),
+        None => Err(FieldFault::Feed(N as u8 + 1)),
     }
 }
