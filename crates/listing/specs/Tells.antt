@@ -1,0 +1,2 @@
+-- What the listing of a plan tells, in the words of the subject. Assumes nothing.
+use Rattle.std.specs.Prelude.{ℕ}
