@@ -1,1 +1,3 @@
+mod Clashing
+mod Placing
 mod Writing

@@ -19,7 +19,7 @@ returns-clause-is g c =
     let n = c.args.n in
     let e = record_is p n c.record.result c.unwrap-frame.result c.record.ensures c.unwrap-frame.ensures in
     four_texts c.args.self.now.bytes.items (hex 3 (value_said (identifier_says p st n))) (row_text (row p n)) (times_text (times_in m p st n (row p n).set)) feed
-      (c.push_text.ensures.is ∙ ap (λ l. c.args.self.now.bytes.items ++ l) (c.hex.ensures ∙ ap (hex 3) (c.from.ensures ∙ c.unwrap_or-identifier.ensures ∙ value_is c.identifier.result _ c.identifier.ensures)))
-      (c.push_row.ensures.is ∙ ap (λ r. c.push_text.new.self.bytes.items ++ row_text r) e)
-      (c.push_times.ensures.is ∙ ap (λ s. c.push_row.new.self.bytes.items ++ times_text (times_in m p st n s)) (ap (λ r. r.set) (c.from-2.ensures ∙ e)))
-      c.push_feed.ensures.is
+    (c.push_text.ensures.is ∙ ap (λ l. c.args.self.now.bytes.items ++ l) (c.hex.ensures ∙ ap (hex 3) (c.from.ensures ∙ c.unwrap_or-identifier.ensures ∙ value_is c.identifier.result _ c.identifier.ensures)))
+    (c.push_row.ensures.is ∙ ap (λ r. c.push_text.new.self.bytes.items ++ row_text r) e)
+    (c.push_times.ensures.is ∙ ap (λ s. c.push_row.new.self.bytes.items ++ times_text (times_in m p st n s)) (ap (λ r. r.set) (c.from-2.ensures ∙ e)))
+    c.push_feed.ensures.is

@@ -20,15 +20,16 @@ loop-k-preserved g c =
     let set = c.args.set in
     let before = c.args.self.now.bytes.items in
     elim c.if-carries.branch [
-      then-carries w ↦
-        let e : in_set k set ≡ true = cc in
-        record {
-          is = ap (λ s. s.bytes.items) w.self-is ∙ w.push_field.ensures.is ∙ ap (λ v. c.loop-k.self.bytes.items ++ (32 ∷ hex 8 v)) (w.unwrap_or.ensures ∙ value_is w.response.result _ w.response.ensures) ∙ ap (λ l. l ++ (32 ∷ hex 8 (f k))) c.loop-k.invariant.is ∙ append_assoc before _ _ ∙ ap (λ l. before ++ l) (sym (text_carried f set k e));
-          low = omega (arith, ap (λ s. length s.bytes.items) w.self-is);
-        }
-    | else-carries w ↦
-        let e : in_set k set ≡ false = cc in
-        record {
-          is = ap (λ s. s.bytes.items) w.self-is ∙ c.loop-k.invariant.is ∙ ap (λ l. before ++ l) (sym (text_absent f set k e));
-          low = omega (arith, ap (λ s. length s.bytes.items) w.self-is);
-        } ]
+      | then-carries w ↦
+          let e : in_set k set ≡ true = cc in
+          record {
+            is = ap (λ s. s.bytes.items) w.self-is ∙ w.push_field.ensures.is ∙ ap (λ v. c.loop-k.self.bytes.items ++ (32 ∷ hex 8 v)) (w.unwrap_or.ensures ∙ value_is w.response.result _ w.response.ensures) ∙ ap (λ l. l ++ (32 ∷ hex 8 (f k))) c.loop-k.invariant.is ∙ append_assoc before _ _ ∙ ap (λ l. before ++ l) (sym (text_carried f set k e));
+            low = omega (arith, ap (λ s. length s.bytes.items) w.self-is);
+          }
+      | else-carries w ↦
+          let e : in_set k set ≡ false = cc in
+          record {
+            is = ap (λ s. s.bytes.items) w.self-is ∙ c.loop-k.invariant.is ∙ ap (λ l. before ++ l) (sym (text_absent f set k e));
+            low = omega (arith, ap (λ s. length s.bytes.items) w.self-is);
+          }
+    ]
