@@ -42,18 +42,19 @@ times_append : (ts us : List ℕ) → times_text (ts ++ us) ≡ times_text ts ++
 times_append [] us = refl
 times_append (t ∷ ts) us = ap (λ l. 32 ∷ (hex 8 t ++ l)) (times_append ts us) ∙ ap (λ l. 32 ∷ l) (sym (append_assoc (hex 8 t) (times_text ts) (times_text us)))
 
+-- what passes of the numbers below k + 1
+pub passed_more : (q : ℕ → Bool) (k : ℕ) → filter q (range_with_len 0 (k + 1)) ≡ filter q (range_with_len 0 k) ++ cond (q k) (k ∷ []) []
+passed_more q k =
+    let e = filter_of_map_range_with_len_more q (λ i. i) 0 k k (omega arith) in
+    ap (filter q) (sym (map-id (range_with_len 0 (k + 1)))) ∙ e ∙ ap (λ l. filter q l ++ cond (q k) (k ∷ []) []) (map-id (range_with_len 0 k))
+
 module _ (f : ℕ → ℕ) (set k : ℕ) where
-  -- the domains below k, and the text of what is read in them
+  -- the domains of the set below j
   abbrev pub below : ℕ → List ℕ
   below j = filter (λ i. in_set i set) (range_with_len 0 j)
 
-  below_more : below (k + 1) ≡ below k ++ cond (in_set k set) (k ∷ []) []
-  below_more =
-      let e = filter_of_map_range_with_len_more (λ i. in_set i set) (λ i. i) 0 k k (omega arith) in
-      ap (filter (λ i. in_set i set)) (sym (map-id (range_with_len 0 (k + 1)))) ∙ e ∙ ap (λ l. filter (λ i. in_set i set) l ++ cond (in_set k set) (k ∷ []) []) (map-id (range_with_len 0 k))
-
   text_more : times_text (map f (below (k + 1))) ≡ times_text (map f (below k)) ++ times_text (map f (cond (in_set k set) (k ∷ []) []))
-  text_more = ap (λ l. times_text (map f l)) below_more ∙ ap times_text (map-append f (below k) (cond (in_set k set) (k ∷ []) [])) ∙ times_append (map f (below k)) (map f (cond (in_set k set) (k ∷ []) []))
+  text_more = ap (λ l. times_text (map f l)) (passed_more (λ i. in_set i set) k) ∙ ap times_text (map-append f (below k) (cond (in_set k set) (k ∷ []) [])) ∙ times_append (map f (below k)) (map f (cond (in_set k set) (k ∷ []) []))
 
   pub text_carried : in_set k set ≡ true → times_text (map f (below (k + 1))) ≡ times_text (map f (below k)) ++ (32 ∷ hex 8 (f k))
   text_carried e = text_more ∙ ap (λ b. times_text (map f (below k)) ++ times_text (map f (cond b (k ∷ []) []))) e ∙ ap (λ l. times_text (map f (below k)) ++ (32 ∷ l)) (append-nil (hex 8 (f k)))
