@@ -1,18 +1,18 @@
 -- The frames of a conflict in list order. Assumes nothing.
-use Rattle.std.proofs.Common.{◌≡◌, ℕ, zero, suc, ◌+◌, ◌<◌, ◌≤◌, Bool, true, false, cond, not, eqb, ◌⊎◌, List, [], ◌∷◌, ◌++◌, map, length, filter, Some, None, Ok, Err, Option, Result, sym, refl, ap, ◌∙◌, subst, inl, inr, arith, append-nil}
+use Rattle.std.proofs.Common.{◌≡◌, ℕ, ◌+◌, ◌<◌, Bool, true, false, cond, not, eqb, List, [], ◌∷◌, ◌++◌, length, filter, Ok, Err, Result, sym, refl, ap, ◌∙◌, arith, append-nil}
 use Rattle.std.specs.List.{AllByRecursion, flat_map, range_with_len}
 use Rattle.std.specs.Result.{result_unwrap_or}
 use Rattle.std.proofs.ByRecursion.{All-weaker}
 use Rattle.std.proofs.lemmas.Grind.{flat_map-append}
 use Rattle.std.proofs.lemmas.Bool.Decides.{nat_tests}
 use Rattle.std.proofs.lemmas.Bool.{cond-true, lt-ltb}
-use Rattle.shelf.specs.Numbers.{chosen, numbers, without}
+use Rattle.shelf.specs.Numbers.{numbers}
 use Rattle.packing.specs.Packings.{Packing, rows}
 use Rattle.plan.specs.declared.fault.PlanFault.{PlanFault}
 use Rattle.plan.specs.Banks.{Bank}
 use Rattle.plan.specs.Closes.{bit, member_says}
-use Rattle.plan.specs.Said.{Said, told, unless_refused}
-use Rattle.plan.specs.Said.Said.{gives, refuses}
+use Rattle.plan.specs.Said.{told, unless_refused}
+use Rattle.plan.specs.Said.Said.{gives}
 use Rattle.plan.specs.Stands.{Stands, in_conflict, among}
 use Rattle.plan.specs.Stands.Stands.{nothing, order, conflict}
 use Rattle.plan.specs.Subject.{Filtered, ConflictStands}
@@ -73,7 +73,7 @@ read_bit (Err f) b e = cc
 
 module _ (m : Bank) (p : Packing) where
   -- the frames of a conflict are those that are in it, in list order
-  in_list_order : (cs : List ℕ) → ConflictStands m p cs → filter (λ n. among n cs) (range_with_len 0 p.frames) ≡ cs
+  pub in_list_order : (cs : List ℕ) → ConflictStands m p cs → filter (λ n. among n cs) (range_with_len 0 p.frames) ≡ cs
   in_list_order cs h =
       let ns = range_with_len 0 p.frames in
       let k = passing m p h.filtered in

@@ -1,3 +1,4 @@
 mod Clashing
 mod Placing
+mod Telling
 mod Writing

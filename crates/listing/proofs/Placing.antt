@@ -1,5 +1,5 @@
 -- The frames of an order at their places. Assumes nothing.
-use Rattle.std.proofs.Common.{◌≡◌, ℕ, ◌+◌, ◌*◌, ◌<◌, ◌≤◌, ◌⊎◌, List, [], ◌∷◌, ◌++◌, length, get_or, take, drop, set, sym, refl, ap, ◌∙◌, subst, inl, inr, arith, get_or-set_same, get_or-set_other}
+use Rattle.std.proofs.Common.{◌≡◌, ℕ, ◌+◌, ◌*◌, ◌<◌, ◌≤◌, ◌⊎◌, List, [], ◌∷◌, ◌++◌, length, get_or, take, drop, set, sym, refl, ap, ◌∙◌, inl, inr, arith, get_or-set_same, get_or-set_other}
 use Rattle.std.specs.List.{AllByRecursion}
 use Rattle.std.proofs.ByRecursion.{All-weaker, All-get_or}
 use Rattle.std.proofs.lemmas.Bool.{cases_eq}
@@ -10,7 +10,6 @@ use Rattle.shelf.proofs.Perms.{perm_length, all_perm, pick_split, taken}
 use Rattle.packing.specs.Packings.{Packing, rows}
 use Rattle.plan.specs.Banks.{Bank}
 use Rattle.plan.specs.Closes.{identifier_at, identifier_says}
-use Rattle.plan.specs.Said.{Said}
 use Rattle.plan.specs.Said.Said.{gives}
 use Rattle.plan.specs.Stands.{Stands, in_order}
 use Rattle.plan.specs.Stands.Stands.{nothing, order, conflict}
@@ -99,10 +98,10 @@ module _ (m : Bank) (p : Packing) where
       let r = stands st h in
       let wide : length (take p.frames ps) ≡ length o = length-take-le p.frames ps (omega (arith, order_long o r)) ∙ sym (order_long o r) in
       same_lists (take p.frames ps) o wide (λ k d l.
-        let b : k < length o = omega arith in
-        let t : k < p.frames = omega (arith, order_long o r) in
-        let w : k < length ps = omega arith in
-        get_or-take p.frames ps k d t ∙ get_or_default ps k d 0 w ∙ f k b (each_below o r k b) ∙ get_or_default o k 0 d b)
+      let b : k < length o = omega arith in
+      let t : k < p.frames = omega (arith, order_long o r) in
+      let w : k < length ps = omega arith in
+      get_or-take p.frames ps k d t ∙ get_or_default ps k d 0 w ∙ f k b (each_below o r k b) ∙ get_or_default o k 0 d b)
 
   pub frames_in : (st : Stands) → OrderRight m p st → length (in_order st) ≡ p.frames
   frames_in st h = order_long (in_order st) (stands st h)

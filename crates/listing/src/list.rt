@@ -9,7 +9,7 @@ ghost use Rattle.plan.specs.Said.{told};
 ghost use Rattle.plan.specs.Stands.{in_order};
 ghost use Rattle.plan.specs.Subject.{HasOrder, Iff, Upheld};
 ghost use Rattle.listing.specs.Lines.{fault_line, listing};
-ghost use Rattle.listing.specs.Tells.{OrderRight, ConflictRight};
+ghost use Rattle.listing.specs.Tells.{OrderRight, ConflictRight, Told};
 
 use crate::text::Listing;
 use arrayvec::ArrayVec;
@@ -73,6 +73,7 @@ pub fn list_plan<B: Domain>(plan: &mut Closed<B>) -> (Listing, Result<Counted, P
     ensures refused { Iff (is_ok result.1 ≡ false) (HasOrder (bank_of (B.count plan.old.bank) (B.cost plan.old.bank) (B.response plan.old.bank)) (rows (held plan.old.tables)) → ⊥) }
     ensures upheld { Upheld (bank_of (B.count plan.old.bank) (B.cost plan.old.bank) (B.response plan.old.bank)) (held plan.old.tables) (stands_of (held plan.new.tables).frames plan.new.standing) }
     ensures listed { result.0.bytes.items ≡ listing (bank_of (B.count plan.old.bank) (B.cost plan.old.bank) (B.response plan.old.bank)) (held plan.old.tables) (ordered (bank_of (B.count plan.old.bank) (B.cost plan.old.bank) (B.response plan.old.bank)) (held plan.old.tables)) }
+    ensures tells { Told (bank_of (B.count plan.old.bank) (B.cost plan.old.bank) (B.response plan.old.bank)) (held plan.old.tables) (ordered (bank_of (B.count plan.old.bank) (B.cost plan.old.bank) (B.response plan.old.bank)) (held plan.old.tables)) result.0.bytes.items }
 {
     let answer = plan.order();
     let listing = if answer.is_ok() {

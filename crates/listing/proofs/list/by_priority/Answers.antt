@@ -1,12 +1,10 @@
-use Rattle.std.proofs.Common.{ℕ, ◌≡◌, ◌+◌, ◌-◌, ◌*◌, ◌/◌, ◌<◌, ◌≤◌, [], ◌∷◌, length, get_or, take, set, sym, refl, ap, ◌∙◌, subst, arith}
+use Rattle.std.proofs.Common.{◌≡◌, ◌-◌, ◌≤◌, [], ◌∷◌, length, get_or, take, sym, ap, ◌∙◌, subst, arith}
 use Rattle.std.proofs.lemmas.List.{length-set}
 use Rattle.packing.specs.Holds.{held}
 use Rattle.packing.proofs.Sounds.{to_sound}
 use Rattle.plan.specs.Banks.{bank_of}
-use Rattle.plan.specs.Closes.{identifier_says}
 use Rattle.plan.specs.Holds.{stands_of}
 use Rattle.plan.specs.Said.{told}
-use Rattle.plan.specs.Said.Said.{gives}
 use Rattle.plan.specs.Stands.{in_order}
 use Rattle.listing.proofs.Placing.{PlaceOf, put_more, place_by, all_placed, frames_in}
 use Rattle.listing.proofs.list.by_priority.Given as given

@@ -1,4 +1,4 @@
-use Rattle.std.proofs.Common.{◌≡◌, ◌+◌, ◌≤◌, ◌++◌, Bool, ℕ, true, false, length, filter, sym, ap, ◌∙◌, arith, append_assoc}
+use Rattle.std.proofs.Common.{◌≡◌, ◌++◌, Bool, ℕ, true, false, length, filter, sym, ap, ◌∙◌, arith}
 use Rattle.std.specs.List.{flat_map, range_with_len}
 use Rattle.packing.specs.Holds.{held}
 use Rattle.packing.proofs.Sounds.{to_sound}
@@ -24,18 +24,19 @@ loop-n-preserved g c =
     let q : ℕ → Bool = λ n. among n (in_conflict st) in
     let read = member_read m p st c.requires n (omega (arith, c.loop-n-test.true, c.frame_count-n-end.ensures)) c.in_conflict.result c.in_conflict.ensures in
     elim c.if-unwrap_or.branch [
-      then-unwrap_or w ↦
-        let e : q n ≡ true = cc (read, w.if-unwrap_or.ensures) in
-        record {
-          is = ap (λ s. s.bytes.items) w.listing-is ∙ w.push_conflict_line.ensures.is ∙ ap (λ l. l ++ conflict_line p n) c.loop-n.invariant.is ∙ sym (line_in (conflict_line p) q n e);
-          low = omega (arith, ap (λ s. length s.bytes.items) w.listing-is);
-        }
-    | else-unwrap_or w ↦
-        let e : q n ≡ false = cc (read, w.if-unwrap_or.ensures) in
-        record {
-          is = ap (λ s. s.bytes.items) w.listing-is ∙ c.loop-n.invariant.is ∙ sym (line_out (conflict_line p) q n e);
-          low = omega (arith, ap (λ s. length s.bytes.items) w.listing-is);
-        } ]
+      | then-unwrap_or w ↦
+          let e : q n ≡ true = cc (read, w.if-unwrap_or.ensures) in
+          record {
+            is = ap (λ s. s.bytes.items) w.listing-is ∙ w.push_conflict_line.ensures.is ∙ ap (λ l. l ++ conflict_line p n) c.loop-n.invariant.is ∙ sym (line_in (conflict_line p) q n e);
+            low = omega (arith, ap (λ s. length s.bytes.items) w.listing-is);
+          }
+      | else-unwrap_or w ↦
+          let e : q n ≡ false = cc (read, w.if-unwrap_or.ensures) in
+          record {
+            is = ap (λ s. s.bytes.items) w.listing-is ∙ c.loop-n.invariant.is ∙ sym (line_out (conflict_line p) q n e);
+            low = omega (arith, ap (λ s. length s.bytes.items) w.listing-is);
+          }
+    ]
 
 pub returns : goal.returns
 returns g c =

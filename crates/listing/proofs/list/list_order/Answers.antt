@@ -1,8 +1,7 @@
-use Rattle.std.proofs.Common.{◌≡◌, ◌<◌, ℕ, length, get_or, sym, ap, ◌∙◌, subst, arith}
+use Rattle.std.proofs.Common.{◌<◌, length, get_or, sym, ap, ◌∙◌, subst, arith}
 use Rattle.packing.specs.Holds.{held}
 use Rattle.plan.specs.Banks.{bank_of}
 use Rattle.plan.specs.Holds.{stands_of}
-use Rattle.plan.specs.Stands.{in_order}
 use Rattle.listing.proofs.Placing.{frame_in}
 use Rattle.listing.proofs.list.list_order.Goals as goal
 

@@ -1,4 +1,4 @@
-use Rattle.std.proofs.Common.{◌++◌, [], ◌∷◌, sym, ap, ◌∙◌}
+use Rattle.std.proofs.Common.{◌++◌, ap, ◌∙◌}
 use Rattle.fields.specs.Hex.{hex}
 use Rattle.packing.specs.Holds.{held}
 use Rattle.packing.specs.Packings.{row}

@@ -1,12 +1,12 @@
-use Rattle.std.proofs.Common.{◌≡◌, ◌+◌, ◌∷◌, ◌++◌, ℕ, true, false, length, map, sym, ap, ◌∙◌, arith, append_assoc}
+use Rattle.std.proofs.Common.{◌≡◌, ◌∷◌, ◌++◌, ℕ, true, false, length, sym, ap, ◌∙◌, arith, append_assoc}
 use Rattle.fields.specs.Hex.{hex}
 use Rattle.packing.specs.Holds.{held}
 use Rattle.plan.specs.Banks.{bank_of}
 use Rattle.plan.specs.Closes.{response_says}
 use Rattle.plan.specs.Holds.{stands_of}
 use Rattle.timing.specs.Carried.{in_set}
-use Rattle.listing.specs.Lines.{times_text, value_said}
-use Rattle.listing.proofs.Writing.{value_is, below, text_carried, text_absent}
+use Rattle.listing.specs.Lines.{value_said}
+use Rattle.listing.proofs.Writing.{value_is, text_carried, text_absent}
 use Rattle.listing.proofs.text.Listing.push_times.Goals as goal
 use Rattle.listing.proofs.text.Listing.push_times.Goals.{then-carries, else-carries}
 
