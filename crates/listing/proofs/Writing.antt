@@ -48,19 +48,24 @@ passed_more q k =
     let e = filter_of_map_range_with_len_more q (λ i. i) 0 k k (omega arith) in
     ap (filter q) (sym (map-id (range_with_len 0 (k + 1)))) ∙ e ∙ ap (λ l. filter q l ++ cond (q k) (k ∷ []) []) (map-id (range_with_len 0 k))
 
-module _ (f : ℕ → ℕ) (set k : ℕ) where
-  -- the domains of the set below j
-  abbrev pub below : ℕ → List ℕ
-  below j = filter (λ i. in_set i set) (range_with_len 0 j)
+-- one domain more: its time, where it is in the set
+module _ (f : ℕ → ℕ) (set k : ℕ) (old now : List ℕ) where
+  abbrev pub times_below : ℕ → List ℕ
+  times_below j = times_text (map f (filter (λ i. in_set i set) (range_with_len 0 j)))
 
-  text_more : times_text (map f (below (k + 1))) ≡ times_text (map f (below k)) ++ times_text (map f (cond (in_set k set) (k ∷ []) []))
-  text_more = ap (λ l. times_text (map f l)) (passed_more (λ i. in_set i set) k) ∙ ap times_text (map-append f (below k) (cond (in_set k set) (k ∷ []) [])) ∙ times_append (map f (below k)) (map f (cond (in_set k set) (k ∷ []) []))
+  more : times_below (k + 1) ≡ times_below k ++ times_text (map f (cond (in_set k set) (k ∷ []) []))
+  more =
+      let ks = filter (λ i. in_set i set) (range_with_len 0 k) in
+      let last = cond (in_set k set) (k ∷ []) [] in
+      ap (λ l. times_text (map f l)) (passed_more (λ i. in_set i set) k) ∙ ap times_text (map-append f ks last) ∙ times_append (map f ks) (map f last)
 
-  pub text_carried : in_set k set ≡ true → times_text (map f (below (k + 1))) ≡ times_text (map f (below k)) ++ (32 ∷ hex 8 (f k))
-  text_carried e = text_more ∙ ap (λ b. times_text (map f (below k)) ++ times_text (map f (cond b (k ∷ []) []))) e ∙ ap (λ l. times_text (map f (below k)) ++ (32 ∷ l)) (append-nil (hex 8 (f k)))
+  pub time_in : now ≡ old ++ times_below k → in_set k set ≡ true → now ++ (32 ∷ hex 8 (f k)) ≡ old ++ times_below (k + 1)
+  time_in h e =
+      ap (λ l. l ++ (32 ∷ hex 8 (f k))) h ∙ append_assoc old (times_below k) (32 ∷ hex 8 (f k)) ∙ ap (λ l. old ++ l) (sym (more ∙ ap (λ b. times_below k ++ times_text (map f (cond b (k ∷ []) []))) e ∙ ap (λ l. times_below k ++ (32 ∷ l)) (append-nil (hex 8 (f k)))))
 
-  pub text_absent : in_set k set ≡ false → times_text (map f (below (k + 1))) ≡ times_text (map f (below k))
-  text_absent e = text_more ∙ ap (λ b. times_text (map f (below k)) ++ times_text (map f (cond b (k ∷ []) []))) e ∙ append-nil (times_text (map f (below k)))
+  pub time_out : now ≡ old ++ times_below k → in_set k set ≡ false → now ≡ old ++ times_below (k + 1)
+  time_out h e =
+      h ∙ ap (λ l. old ++ l) (sym (more ∙ ap (λ b. times_below k ++ times_text (map f (cond b (k ∷ []) []))) e ∙ append-nil (times_below k)))
 
 -- three texts appended, and four
 pub three : (w : List ℕ) {x y z : List ℕ} (p q r : List ℕ) → x ≡ w ++ p → y ≡ x ++ q → z ≡ y ++ r → z ≡ w ++ (p ++ q ++ r)

@@ -45,11 +45,12 @@ impl Listing {
     // The line of frame n in the order that stands.
     pub(crate) fn push_order_line<B: Domain>(&mut self, plan: &Closed<B>, n: usize)
         requires room { length self.old.bytes.items + 65 ≤ 6240 }
-        requires known { n < (held plan.now.tables).frames }
+        requires within { n < (held plan.now.tables).frames }
         ensures is { self.new.bytes.items ≡ self.old.bytes.items ++ order_line (bank_of (B.count plan.now.bank) (B.cost plan.now.bank) (B.response plan.now.bank)) (held plan.now.tables) (stands_of (held plan.now.tables).frames plan.now.standing) n }
         ensures low { length self.new.bytes.items ≤ length self.old.bytes.items + 65 }
     {
         let frame = plan.record(n).unwrap();
+        // While an order stands each frame has an identifier, and a time in each domain of its set.
         let identifier = plan.identifier(n).unwrap_or(0);
         self.push_text(&hex::<3>(u64::from(identifier)));
         self.push_row(&frame);
@@ -60,7 +61,7 @@ impl Listing {
     // The line of frame n in the conflict that stands.
     pub(crate) fn push_conflict_line<B: Domain>(&mut self, plan: &Closed<B>, n: usize)
         requires room { length self.old.bytes.items + 65 ≤ 6240 }
-        requires known { n < (held plan.now.tables).frames }
+        requires within { n < (held plan.now.tables).frames }
         ensures is { self.new.bytes.items ≡ self.old.bytes.items ++ conflict_line (held plan.now.tables) n }
         ensures low { length self.new.bytes.items ≤ length self.old.bytes.items + 65 }
     {

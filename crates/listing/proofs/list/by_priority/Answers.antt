@@ -1,4 +1,4 @@
-use Rattle.std.proofs.Common.{◌≡◌, ◌-◌, ◌≤◌, [], ◌∷◌, length, get_or, take, sym, ap, ◌∙◌, subst, arith}
+use Rattle.std.proofs.Common.{◌≡◌, ◌-◌, ◌≤◌, [], ◌∷◌, length, get_or, take, sym, ap, ap₂, ◌∙◌, subst, arith}
 use Rattle.std.proofs.lemmas.List.{length-set}
 use Rattle.packing.specs.Holds.{held}
 use Rattle.packing.proofs.Sounds.{to_sound}
@@ -50,5 +50,6 @@ returns g c =
     let st = stands_of p.frames c.args.plan.now.standing in
     let long = frames_in m p st c.requires in
     let room = (to_sound p c.args.plan.now.tables.ok).room in
-    c.truncate.ensures.items ∙ ap (λ k. take k c.from-numbers.result.items) c.frame_count.ensures ∙ ap (take p.frames) c.from-numbers.ensures.0
-    ∙ all_placed m p st c.requires c.loop-n.places (omega (arith, long, room, c.loop-n.invariant.long)) (λ q b f. c.loop-n.invariant.placed q b (omega (arith, f, c.loop-n-test.false, c.frame_count-n-end.ensures)))
+    let ps = c.loop-n.places in
+    let front : c.truncate.new.self.items ≡ take p.frames ps = c.truncate.ensures.items ∙ ap₂ (λ k xs. take k xs) c.frame_count.ensures c.from-numbers.ensures.0 in
+    front ∙ all_placed m p st c.requires ps (omega (arith, long, room, c.loop-n.invariant.long)) (λ q b f. c.loop-n.invariant.placed q b (omega (arith, f, c.loop-n-test.false, c.frame_count-n-end.ensures)))

@@ -5,8 +5,8 @@ use Rattle.plan.specs.Holds.{stands_of}
 use Rattle.listing.proofs.Placing.{frame_in}
 use Rattle.listing.proofs.list.list_order.Goals as goal
 
-pub push_order_line-requires-clause-known : goal.push_order_line-requires-clause-known
-push_order_line-requires-clause-known g c =
+pub push_order_line-requires-clause-within : goal.push_order_line-requires-clause-within
+push_order_line-requires-clause-within g c =
     let x = c.args.plan.now.bank in
     let m = bank_of (g.B.Domain.count x) (g.B.Domain.cost x) (g.B.Domain.response x) in
     let p = held c.args.plan.now.tables in
