@@ -5,12 +5,16 @@ ghost use Rattle.streams.specs.Demands.{horizon};
 ghost use Rattle.bus.specs.Buses.{busy_period};
 
 use arrayvec::ArrayVec;
+use frames::limits::MAX_FRAMES;
 use kinds::view::View;
 use streams::load::Load;
 use streams::stream::Stream;
 
+// A frame, and a whole list of others above it.
+const MAX_QUEUE: usize = MAX_FRAMES + 1;
+
 // The frame asked about and those above it, in one list.
-fn queue_of(view: &View<'_>) -> ArrayVec<Stream, 97>
+fn queue_of(view: &View<'_>) -> ArrayVec<Stream, MAX_QUEUE>
     ensures { result.items ≡ view.now.own ∷ view.now.above.streams.now }
 {
     let mut queue = ArrayVec::new();

@@ -4,5 +4,6 @@
 
 pub mod fault;
 pub mod frame;
+pub mod limits;
 pub mod payload;
 pub mod row;

@@ -10,6 +10,7 @@ use arrayvec::ArrayVec;
 use domains::place::Place;
 use domains::question::Question;
 use frames::frame::Frame;
+use frames::limits::MAX_FRAMES;
 use streams::stream::Stream;
 
 // A frame as a kind sees it.
@@ -27,7 +28,7 @@ pub(crate) fn gather<K: Kind>(
     kind: &K,
     question: &Question<'_>,
     wanted: Place,
-) -> Option<ArrayVec<Stream, 96>>
+) -> Option<ArrayVec<Stream, MAX_FRAMES>>
     requires { length question.now.rows.now ≤ 96 }
     ensures { Gathered (K.price kind.now) (standing wanted question.now.rows.now question.now.places.now question.now.frame) result }
 {

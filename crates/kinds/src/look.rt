@@ -7,13 +7,14 @@ use crate::view::Streams;
 use domains::place::Place;
 use domains::question::Question;
 use frames::frame::Frame;
+use frames::limits::MAX_FRAMES;
 
-// None where the question has no answer, whatever is asked: more than 96 rows, a number that is not in the list,
+// None where the question has no answer, whatever is asked: too many rows, a number that is not in the list,
 // or a row that is told of and outside the limits of a record.
 pub fn look<K: Kind>(kind: &K, question: &Question<'_>) -> Option<Streams>
     ensures { Looked (K.price kind.now) question.now.rows.now question.now.places.now question.now.frame result }
 {
-    if question.rows.len() > 96 || question.frame >= question.rows.len() {
+    if question.rows.len() > MAX_FRAMES || question.frame >= question.rows.len() {
         return None;
     }
     let Ok(frame) = Frame::try_from(question.rows[question.frame]) else {

@@ -3,6 +3,7 @@ ghost use Rattle.std.specs.Prelude.{◌≡◌, ◌≤◌, All, length};
 ghost use Rattle.streams.specs.Demands.{Fit};
 
 use arrayvec::ArrayVec;
+use frames::limits::MAX_FRAMES;
 use streams::load::Load;
 use streams::stream::Stream;
 
@@ -10,15 +11,15 @@ use streams::stream::Stream;
 #[derive(Drop)]
 pub struct Streams {
     pub(crate) own: Stream,
-    pub(crate) above: ArrayVec<Stream, 96>,
-    pub(crate) below: ArrayVec<Stream, 96>,
+    pub(crate) above: ArrayVec<Stream, MAX_FRAMES>,
+    pub(crate) below: ArrayVec<Stream, MAX_FRAMES>,
     ghost fit: { Fit own },
     ghost over: { All Fit above.items },
     ghost under: { All Fit below.items },
 }
 
-// As a kind of domain is asked. What stands below does not matter to each kind, so only those to whom it does ask that it
-// is within its limits.
+// As a kind of domain is asked. What stands below does not matter to each kind, so only those to whom it does ask that
+// it is within its limits.
 #[derive(Clone, Copy)]
 pub struct View<'a> {
     pub own: Stream,

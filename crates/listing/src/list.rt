@@ -14,13 +14,11 @@ ghost use Rattle.listing.specs.Tells.{OrderRight, ConflictRight, Told};
 use crate::text::Listing;
 use arrayvec::ArrayVec;
 use domains::domain::Domain;
+use frames::limits::MAX_FRAMES;
 use plan::closed::Closed;
 use plan::closed::order::Counted;
+use plan::closed::readings::IDENTIFIER_STEP;
 use plan::fault::PlanFault;
-
-const MAX_FRAMES: usize = 96;
-
-const IDENTIFIER_STEP: u16 = 8;
 
 // The frames of the order that stands, by their numbers. Each goes to its place, which its identifier tells.
 fn by_priority<B: Domain>(plan: &Closed<B>) -> ArrayVec<usize, MAX_FRAMES>

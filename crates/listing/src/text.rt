@@ -4,9 +4,10 @@ ghost use Rattle.fields.specs.Hex.{hex};
 
 use arrayvec::ArrayVec;
 use fields::digits::hex;
+use frames::limits::MAX_FRAMES;
 
-// At most 96 lines of at most 65 bytes.
-pub const MAX_BYTES: usize = 6_240;
+// A line for each frame, the longest of which has the times of four domains.
+pub const MAX_BYTES: usize = MAX_FRAMES * 65;
 
 // Bytes are only appended.
 #[derive(Drop)]

@@ -9,18 +9,19 @@ ghost use Rattle.ordering.specs.Orders.{greedy, conflict_of};
 use crate::places::arrange;
 use domains::domain::Domain;
 use domains::place::Place;
+use frames::limits::MAX_FRAMES;
 use timing::everywhere::Frames;
 
-// The frames of a conflict are those that the table has above, and so many are they. A list of their numbers would be no
-// plainer: the filter and the reading of a member both go by number.
+// The frames of a conflict are those that the table has above, and so many are they. A list of their numbers would be
+// no plainer: the filter and the reading of a member both go by number.
 #[derive(Clone, Copy)]
 pub struct Conflict {
     pub size: usize,
-    pub table: [Place; 96],
+    pub table: [Place; MAX_FRAMES],
 }
 
-// Whether the `count` frames that the table has above have an order. It is given the count, since `find_conflict` has it.
-fn has_order<B: Domain>(frames: &Frames<B>, mut places: [Place; 96], count: usize) -> bool
+// Whether the `count` frames that the table has above have an order. The count is given, since `find_conflict` has it.
+fn has_order<B: Domain>(frames: &Frames<B>, mut places: [Place; MAX_FRAMES], count: usize) -> bool
     requires free { length (above (take (length frames.now.rows.now) places)) ≡ count }
     requires none { below (take (length frames.now.rows.now) places) ≡ [] }
     ensures { let rows = frames.now.rows.now in result ≡ is_some (greedy (by_number (everywhere (B.response frames.now.bank.now)) (row_at rows)) count (above (take (length rows) places)) []) }
@@ -34,7 +35,7 @@ pub(crate) fn find_conflict<B: Domain>(frames: &Frames<B>) -> Conflict
     ensures rest { drop (length frames.now.rows.now) result.table ≡ drop (length frames.now.rows.now) (replicate 96 Up) }
     ensures size { result.size ≡ length (conflict_of (everywhere (B.response frames.now.bank.now)) frames.now.rows.now no_row) }
 {
-    let mut table = [Place::Above; 96];
+    let mut table = [Place::Above; MAX_FRAMES];
     let mut size = frames.rows.len();
     // By number in list order, as the rule has it; the table that it goes over changes on the way.
     for f in 0..frames.rows.len() {

@@ -5,12 +5,11 @@ ghost use Rattle.packing.specs.Choices.{at_frame, choice, growth_at};
 ghost use Rattle.packing.specs.Holds.{held};
 
 use crate::choice::Choice;
-use crate::tables::{MAX_FRAMES, Tables};
+use crate::tables::Tables;
 use domains::domain::Domain;
+use frames::limits::{MAX_FILL, MAX_FRAMES};
 use signals::signal::Signal;
 use weights::weigh::row_weight;
-
-const MAX_FILL: u8 = 64;
 
 // A signal that asks for a frame of the tables, over a bank of domains.
 #[derive(Drop)]

@@ -6,9 +6,8 @@ ghost use Rattle.packing.specs.Tables.{listed};
 
 use crate::table::SignalTable;
 use arrayvec::ArrayVec;
+use frames::limits::MAX_FRAMES;
 use frames::row::Row;
-
-pub(crate) const MAX_FRAMES: usize = 96;
 
 #[derive(Drop)]
 pub struct Tables {

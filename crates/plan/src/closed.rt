@@ -3,8 +3,8 @@ use ordering::conflicts::Conflict;
 use ordering::orders::Placement;
 use packing::tables::Tables;
 
-// What stands: an order, a conflict, or neither. Three names are plainer than an Option of a Result, in which a conflict
-// that stands would read as a failure.
+// What stands: an order, a conflict, or neither. Three names are plainer than an Option of a Result, in which a
+// conflict that stands would read as a failure.
 #[derive(Clone, Drop)]
 pub enum Standing {
     Neither,

@@ -36,8 +36,8 @@ pub enum PlanFault {
 }
 
 impl PlanFault {
-    // The number of the refusal. As a `From` it would be no plainer: it would not say what number of the fault it is, and
-    // the size of a conflict is a number too.
+    // The number of the refusal. As a `From` it would be no plainer: it would not say what number of the fault it is,
+    // and the size of a conflict is a number too.
     pub fn number(&self) -> u8
         ensures { result ≡ (plan_told self.now).number }
     {

@@ -10,11 +10,10 @@ use frames::frame::Frame;
 use frames::row::Row;
 use packing::choice::Choice;
 use packing::choose::Entrant;
+use packing::table::MAX_SIGNALS;
 use packing::tables::Tables;
 use signals::entries::find;
 use signals::signal::Signal;
-
-const MAX_SIGNALS: usize = 256;
 
 // Of the signal's own figures, over a bank of so many domains.
 fn check_figures(domains: usize, signal: &Signal) -> Result<(), PlanFault>

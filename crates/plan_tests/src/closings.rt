@@ -52,8 +52,8 @@ fn readings_refused(rt: HostRuntime) -> Result<(), Fail> {
     Ok(())
 }
 
-// Any other frame on the bus makes a hasty one late, be it above or blocking from below. Of two hasty frames and a patient
-// one, the first is left out of the conflict: the other two have no order without it.
+// Any other frame on the bus makes a hasty one late, be it above or blocking from below. Of two hasty frames and a
+// patient one, the first is left out of the conflict: the other two have no order without it.
 #[test]
 fn a_conflict_and_its_end(rt: HostRuntime) -> Result<(), Fail> {
     let mut draft = Draft::new(Bus::new(2_000, 500)?);

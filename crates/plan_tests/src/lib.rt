@@ -1,5 +1,5 @@
-// Runs of plans: at both sides of each limit, in the order of the questions, of the tie rules, from signals to identifiers
-// and to a conflict, of lists of calls, and of listings.
+// Runs of plans: at both sides of each limit, in the order of the questions, of the tie rules, from signals to
+// identifiers and to a conflict, of lists of calls, and of listings.
 #![tactic(auto)]
 
 #[cfg(test)]

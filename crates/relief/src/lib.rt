@@ -9,10 +9,11 @@ ghost use Rattle.relief.specs.Gains.{Gains};
 use domains::domain::Domain;
 use domains::place::Place;
 use domains::question::Question;
+use frames::limits::MAX_FRAMES;
 use frames::row::Row;
 
 // The places with frame i left out; a number that is not in the table leaves them as they are.
-fn left_out(places: [Place; 96], i: usize) -> [Place; 96]
+fn left_out(places: [Place; MAX_FRAMES], i: usize) -> [Place; MAX_FRAMES]
     ensures { result ≡ slice_set places i Gone }
 {
     let mut without = places;
@@ -23,13 +24,13 @@ fn left_out(places: [Place; 96], i: usize) -> [Place; 96]
 }
 
 // By how much frame f of the rows is earlier in domain k without frame i; none where it has no response time.
-// Rows, places and number are no `Question`, since a frame is left out of a copy of the places: an array by value, for a
-// slice of any length cannot be copied without a heap.
+// Rows, places and number are no `Question`, since a frame is left out of a copy of the places: an array by value, for
+// a slice of any length cannot be copied without a heap.
 pub fn relief<D: Domain>(
     domain: &D,
     k: usize,
     rows: &[Row],
-    places: [Place; 96],
+    places: [Place; MAX_FRAMES],
     f: usize,
     i: usize,
 ) -> Option<u64>

@@ -82,7 +82,7 @@ pub fn replay<B: Domain>(bank: B, calls: &[Call], answers: &mut [Answer]) -> Res
         return Err(bank);
     }
     let mut plan = Plan::Open(Draft::new(bank));
-    // With `zip` over the answers lent for writing the proof did not close: after such a loop it knows their number alone.
+    // With `zip` over the answers lent for writing the proof did not close: after such a loop it has only their number.
     for (i, call) in calls.iter().enumerate() {
         let (next, answer) = apply(plan, *call);
         plan = next;

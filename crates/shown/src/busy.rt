@@ -42,7 +42,7 @@ const ABOVE: [Place; 3] = [Place::Above, Place::Above, Place::Absent];
 const MOST_INSTANCES: u64 = 4_000;
 
 // Prints each instance of the last frame's busy period, counted from 1, and gives the number of the latest.
-fn print_instances(rt: &HostRuntime, bus: &Bus, question: &Question<'_>) -> anyhow::Result<u64> {
+fn print_instances(rt: &impl Print, bus: &Bus, question: &Question<'_>) -> anyhow::Result<u64> {
     let mut latest: u64 = 0;
     let mut worst: u64 = 0;
     for q in 0..MOST_INSTANCES {
@@ -60,7 +60,7 @@ fn print_instances(rt: &HostRuntime, bus: &Bus, question: &Question<'_>) -> anyh
     Ok(latest)
 }
 
-pub fn print_busy_period(rt: &HostRuntime, bus: &Bus) -> anyhow::Result<()> {
+pub fn print_busy_period(rt: &impl Print, bus: &Bus) -> anyhow::Result<()> {
     let question = Question {
         rows: &THREE,
         places: &ABOVE,

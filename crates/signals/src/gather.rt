@@ -4,17 +4,15 @@ ghost use Rattle.signals.specs.Riders.{riders};
 ghost use Rattle.signals.specs.Rows.{alone, joined, row_by};
 
 use crate::signal::{Entry, Signal};
+use frames::limits::MAX_PERIOD;
 use frames::row::Row;
-
-// The longest lawful period, in nanoseconds.
-const LONGEST: u64 = 2_000_000_000;
 
 // The row of no signals: every lawful period and deadline is at most as long.
 pub const BLANK: Row = Row {
     sender: 0,
     fill: 0,
-    period: LONGEST,
-    deadline: LONGEST,
+    period: MAX_PERIOD,
+    deadline: MAX_PERIOD,
     set: 0,
 };
 

@@ -1,5 +1,5 @@
-// The frames of a list over a bank, a trial of where each stands, and whether a frame is in time there in all domains of
-// its set.
+// The frames of a list over a bank, a trial of where each stands, and whether a frame is in time there in all domains
+// of its set.
 ghost use Rattle.std.specs.Prelude.{◌≡◌, ℕ, ◌<◌, ◌≤◌, length, if◌then◌else◌, slice_index_or};
 ghost use Rattle.timing.specs.Carried.{carried};
 ghost use Rattle.domains.specs.declared.place.Place.TheVariants.{Above as Up, Absent as Gone};
@@ -10,6 +10,7 @@ use crate::carried::{carries, in_time};
 use domains::domain::{Domain, MOST_DOMAINS};
 use domains::place::Place;
 use domains::question::Question;
+use frames::limits::MAX_FRAMES;
 use frames::row::Row;
 use std::array;
 
@@ -21,8 +22,8 @@ pub struct Frames<'a, B> {
     pub ghost few: { length rows.now ≤ 96 },
 }
 
-// The same, with a table of where each frame stands, which changes while the rows stay. It is flat, since the compiler refuses a trial in a loop that holds
-// the frames by reference, and they are not copied.
+// The same, with a table of where each frame stands, which changes while the rows stay. It is flat, since the compiler
+// refuses a trial in a loop that holds the frames by reference, and they are not copied.
 #[derive(Drop)]
 pub struct Trial<'a, B> {
     pub bank: &'a B,
@@ -43,9 +44,9 @@ impl<B: Domain> Trial<'_, B> {
         }
     }
 
-    // The table with the frames left out that domain k does not carry. It has a place for every number that there may be;
-    // those past the rows are not asked about.
-    fn told(&self, k: usize) -> [Place; 96]
+    // The table with the frames left out that domain k does not carry. It has a place for every number that there may
+    // be; those past the rows are not asked about.
+    fn told(&self, k: usize) -> [Place; MAX_FRAMES]
         ensures { let rows = self.now.rows.now in let places = self.now.places.now in (j : ℕ) → j < length rows → slice_index_or result j Up ≡ (if carried k (row_at rows j) then slice_index_or places j Up else Gone) }
     {
         array::from_fn(|i| self.told_place(k, i))

@@ -7,6 +7,7 @@ use crate::carried::carries;
 use crate::everywhere::Trial;
 use domains::domain::Domain;
 use domains::place::Place;
+use frames::limits::MAX_FRAMES;
 use frames::row::Row;
 use std::array;
 
@@ -17,15 +18,15 @@ fn rank_of(f: usize, i: usize) -> Place
     if i < f { Place::Above } else { Place::Below }
 }
 
-// The response time in domain k of frame f, with the rows in order of priority; none where the domain does not carry it.
+// The response time in domain k of frame f, with the rows in order of priority; none where it is not carried there.
 pub fn response_at<B: Domain>(bank: &B, k: usize, rows: &[Row], f: usize) -> Option<u64>
     ensures { result ≡ response_at (B.response bank.now) k rows.now f }
 {
-    if rows.len() > 96 || !carries(k, rows.get(f)?.set) {
+    if rows.len() > MAX_FRAMES || !carries(k, rows.get(f)?.set) {
         return None;
     }
     // A place for every number that there may be.
-    let table: [Place; 96] = array::from_fn(|i| rank_of(f, i));
+    let table: [Place; MAX_FRAMES] = array::from_fn(|i| rank_of(f, i));
     let trial = Trial {
         bank,
         rows,

@@ -2,70 +2,74 @@
 use crate::truck::SIGNALS;
 use anyhow::anyhow;
 use domains::domain::Domain;
-use plan::fault::PlanFault;
 use runs::call::{Answer, Call};
 use runs::replay::replay;
 use signals::signal::Signal;
+use std::fmt;
 
-// In the words of this program.
-fn call_name(call: Call) -> &'static str {
-    match call {
-        Call::Enter(_) => "enter",
-        Call::Withdraw(_) => "withdraw",
-        Call::Close => "close",
-        Call::Reopen => "reopen",
-        Call::Order => "order",
-        Call::FrameOf(_) => "frame of a signal",
-        Call::Record(_) => "record",
-        Call::Identifier(_) => "identifier",
-        Call::Response(_, _) => "response",
-        Call::Member(_) => "in the conflict",
-        Call::SignalCount => "signal count",
-        Call::FrameCount => "frame count",
-        Call::Weight => "weight",
+// A call, in the words of this program.
+#[derive(Clone, Copy)]
+struct Named(Call);
+
+impl fmt::Display for Named {
+    fn fmt<W: fmt::Write>(&self, f: &mut fmt::Formatter<W>) -> fmt::Result {
+        f.pad(match self.0 {
+            Call::Enter(_) => "enter",
+            Call::Withdraw(_) => "withdraw",
+            Call::Close => "close",
+            Call::Reopen => "reopen",
+            Call::Order => "order",
+            Call::FrameOf(_) => "frame of a signal",
+            Call::Record(_) => "record",
+            Call::Identifier(_) => "identifier",
+            Call::Response(_, _) => "response",
+            Call::Member(_) => "in the conflict",
+            Call::SignalCount => "signal count",
+            Call::FrameCount => "frame count",
+            Call::Weight => "weight",
+        })
     }
 }
 
-fn print_refusal(rt: &HostRuntime, fault: PlanFault) -> anyhow::Result<()> {
-    let number = fault.number();
-    Ok(println!(rt; "refused with {number}")?)
-}
+// What it answered.
+#[derive(Clone, Copy)]
+struct Told(Answer);
 
-fn print_answer(rt: &HostRuntime, answer: Answer) -> anyhow::Result<()> {
-    match answer {
-        Answer::Changed(Ok(())) | Answer::Moved => println!(rt; "done")?,
-        Answer::Ordered(Ok(counted)) => println!(rt;
-            "{} frames, {} examinations",
-            counted.frames, counted.examinations
-        )?,
-        Answer::Frame(Ok(n)) | Answer::Count(n) => println!(rt; "{n}")?,
-        Answer::Record(Ok(row)) => println!(rt; "a frame of sender {}", row.sender)?,
-        Answer::Identifier(Ok(identifier)) => println!(rt; "{identifier}")?,
-        Answer::Response(Ok(time)) => println!(rt; "{time}")?,
-        Answer::Member(Ok(member)) => println!(rt; "{member}")?,
-        Answer::Weight(weight) => println!(rt; "{weight}")?,
-        Answer::NotAllowed => println!(rt; "not a call of this state")?,
-        Answer::Changed(Err(fault))
-        | Answer::Ordered(Err(fault))
-        | Answer::Frame(Err(fault))
-        | Answer::Record(Err(fault))
-        | Answer::Identifier(Err(fault))
-        | Answer::Response(Err(fault))
-        | Answer::Member(Err(fault)) => print_refusal(rt, fault)?,
+impl fmt::Display for Told {
+    fn fmt<W: fmt::Write>(&self, f: &mut fmt::Formatter<W>) -> fmt::Result {
+        match self.0 {
+            Answer::Changed(Ok(())) | Answer::Moved => f.write_str("done"),
+            Answer::Ordered(Ok(counted)) => write!(
+                f,
+                "{} frames, {} examinations",
+                counted.frames, counted.examinations
+            ),
+            Answer::Frame(Ok(n)) | Answer::Count(n) => write!(f, "{n}"),
+            Answer::Record(Ok(row)) => write!(f, "a frame of sender {}", row.sender),
+            Answer::Identifier(Ok(identifier)) => write!(f, "{identifier}"),
+            Answer::Response(Ok(time)) => write!(f, "{time}"),
+            Answer::Member(Ok(member)) => write!(f, "{member}"),
+            Answer::Weight(weight) => write!(f, "{weight}"),
+            Answer::NotAllowed => f.write_str("not a call of this state"),
+            Answer::Changed(Err(fault))
+            | Answer::Ordered(Err(fault))
+            | Answer::Frame(Err(fault))
+            | Answer::Record(Err(fault))
+            | Answer::Identifier(Err(fault))
+            | Answer::Response(Err(fault))
+            | Answer::Member(Err(fault)) => write!(f, "refused with {}", fault.number()),
+        }
     }
-    Ok(())
 }
 
-fn print_answers(rt: &HostRuntime, calls: &[Call], answers: &[Answer]) -> anyhow::Result<()> {
+fn print_answers(rt: &impl Print, calls: &[Call], answers: &[Answer]) -> anyhow::Result<()> {
     for (call, answer) in calls.iter().zip(answers.iter()) {
-        let name = call_name(*call);
-        print!(rt; "{name:<16}")?;
-        print_answer(rt, *answer)?;
+        println!(rt; "{:<16}{}", Named(*call), Told(*answer))?;
     }
     Ok(())
 }
 
-pub fn print_calls<D: Domain + Drop>(rt: &HostRuntime, bank: D) -> anyhow::Result<()> {
+pub fn print_calls<D: Domain + Drop>(rt: &impl Print, bank: D) -> anyhow::Result<()> {
     let wheel = Signal::from(SIGNALS[0]);
     let calls = [
         Call::Enter(wheel),

@@ -8,7 +8,7 @@ use weights::weigh::frame_weight;
 
 // The names of the signals of the lines that ride in frame n.
 fn print_riders<D: Domain>(
-    rt: &HostRuntime,
+    rt: &impl Print,
     plan: &Closed<D>,
     lines: &[Line],
     n: usize,
@@ -23,7 +23,7 @@ fn print_riders<D: Domain>(
 }
 
 fn print_frame<D: Domain>(
-    rt: &HostRuntime,
+    rt: &impl Print,
     bank: &D,
     n: usize,
     frame: &Frame,
@@ -39,7 +39,7 @@ fn print_frame<D: Domain>(
 }
 
 pub fn print_packing<D: Domain>(
-    rt: &HostRuntime,
+    rt: &impl Print,
     bank: &D,
     plan: &Closed<D>,
     lines: &[Line],

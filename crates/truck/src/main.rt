@@ -15,7 +15,7 @@ use shown::busy::{BIT, print_busy_period};
 use signals::signal::Signal;
 use truck::{Bank, Line, SCANNERS, SIGNALS, bank};
 
-fn enter_all(rt: &HostRuntime, draft: &mut Draft<Bank>, lines: &[Line]) -> anyhow::Result<()> {
+fn enter_all(rt: &impl Print, draft: &mut Draft<Bank>, lines: &[Line]) -> anyhow::Result<()> {
     for line in lines {
         let signal = Signal::from(*line);
         if let Err(fault) = draft.enter(signal) {
@@ -27,7 +27,7 @@ fn enter_all(rt: &HostRuntime, draft: &mut Draft<Bank>, lines: &[Line]) -> anyho
 }
 
 // A truck with the usual signals and some more.
-fn print_plan(rt: &HostRuntime, bank: Bank, more: &[Line]) -> anyhow::Result<()> {
+fn print_plan(rt: &impl Print, bank: Bank, more: &[Line]) -> anyhow::Result<()> {
     let mut draft = Draft::new(bank);
     enter_all(rt, &mut draft, &SIGNALS)?;
     enter_all(rt, &mut draft, more)?;
@@ -36,7 +36,7 @@ fn print_plan(rt: &HostRuntime, bank: Bank, more: &[Line]) -> anyhow::Result<()>
     print_outcome(rt, &mut plan)
 }
 
-fn run(rt: &HostRuntime) -> anyhow::Result<()> {
+fn run(rt: &impl Print) -> anyhow::Result<()> {
     let bus = Bus::new(BIT, BIT)?;
     let bank = bank()?;
     println!(rt; "A truck with two buses, a gateway and a radio link:")?;

@@ -1,16 +1,15 @@
 // Prints the order of a plan with each frame's responses, or the frames that are in each other's way.
 use crate::truck::DOMAIN_NAMES;
 use domains::domain::{Domain, MOST_DOMAINS};
+use frames::limits::MAX_FRAMES;
 use plan::closed::Closed;
 use plan::closed::order::Counted;
+use plan::closed::readings::IDENTIFIER_STEP;
 use plan::fault::PlanFault;
 use shown::names::name_of;
 
-// A plan has no more.
-const MOST_FRAMES: u16 = 96;
-
 // How late frame n can be in each domain that carries it.
-fn print_responses<D: Domain>(rt: &HostRuntime, plan: &Closed<D>, n: usize) -> anyhow::Result<()> {
+fn print_responses<D: Domain>(rt: &impl Print, plan: &Closed<D>, n: usize) -> anyhow::Result<()> {
     for k in 0..MOST_DOMAINS {
         if let Ok(time) = plan.response(n, k) {
             let name = name_of(&DOMAIN_NAMES, k);
@@ -21,7 +20,7 @@ fn print_responses<D: Domain>(rt: &HostRuntime, plan: &Closed<D>, n: usize) -> a
 }
 
 // The frame of that identifier, if there is one.
-fn print_place<D: Domain>(rt: &HostRuntime, plan: &Closed<D>, wanted: u16) -> anyhow::Result<()> {
+fn print_place<D: Domain>(rt: &impl Print, plan: &Closed<D>, wanted: u16) -> anyhow::Result<()> {
     let mut numbers = 0..plan.frame_count();
     if let Some(n) = numbers.find(|n| plan.identifier(*n) == Ok(wanted)) {
         print!(rt; "{wanted:>10} {n:>5}")?;
@@ -31,7 +30,7 @@ fn print_place<D: Domain>(rt: &HostRuntime, plan: &Closed<D>, wanted: u16) -> an
 }
 
 fn print_order<D: Domain>(
-    rt: &HostRuntime,
+    rt: &impl Print,
     plan: &Closed<D>,
     counted: Counted,
 ) -> anyhow::Result<()> {
@@ -40,14 +39,14 @@ fn print_order<D: Domain>(
         counted.frames, counted.examinations
     )?;
     println!(rt; "identifier frame  response times")?;
-    for place in 1..=MOST_FRAMES {
-        print_place(rt, plan, 8 * place)?;
+    for place in 1..=MAX_FRAMES {
+        print_place(rt, plan, IDENTIFIER_STEP * place as u16)?;
     }
     Ok(())
 }
 
 fn print_conflict<D: Domain>(
-    rt: &HostRuntime,
+    rt: &impl Print,
     plan: &Closed<D>,
     fault: PlanFault,
 ) -> anyhow::Result<()> {
@@ -61,7 +60,7 @@ fn print_conflict<D: Domain>(
     Ok(println!(rt; ".")?)
 }
 
-pub fn print_outcome<D: Domain>(rt: &HostRuntime, plan: &mut Closed<D>) -> anyhow::Result<()> {
+pub fn print_outcome<D: Domain>(rt: &impl Print, plan: &mut Closed<D>) -> anyhow::Result<()> {
     match plan.order() {
         Ok(counted) => print_order(rt, plan, counted),
         Err(fault) => print_conflict(rt, plan, fault),

@@ -31,8 +31,8 @@ const BOTH: u8 = DRIVE | SURVEY | GATEWAY;
 
 const EVERYWHERE: u8 = BOTH | LINK;
 
-// A signal as a line of a table: name, sender, size, period, deadline, and where it has to go. With the names of the fields
-// it would be eight lines.
+// A signal as a line of a table: name, sender, size, period, deadline, and where it has to go. With the names of the
+// fields it would be eight lines.
 #[derive(Clone, Copy)]
 pub struct Line(pub u16, pub u8, pub u8, pub u64, pub u64, pub u8);
 

@@ -10,6 +10,7 @@ use gateway::gateway::Gateway;
 use radio::radio::Radio;
 use shown::busy::{BIT, print_busy_period};
 use shown::names::name_of;
+use std::fmt;
 use timing::carried::{carries, in_time};
 use timing::ranked::response_at;
 
@@ -54,53 +55,61 @@ const FRAMES: [Row; 5] = [
 
 const DOMAIN_NAMES: [&str; 2] = ["gateway", "radio"];
 
-// One line of the table: frame f in domain k.
-fn print_line<D: Domain>(
-    rt: &HostRuntime,
-    bank: &D,
-    k: usize,
-    rows: &[Row],
-    f: usize,
-    frame: &Frame,
-) -> anyhow::Result<()> {
-    let row = Row::from(*frame);
-    let payload = frame.payload();
-    let cost = bank.cost(k, frame);
-    let answer = response_at(bank, k, rows, f);
-    let verdict = if in_time(answer, row.deadline) {
-        "in time"
-    } else {
-        "late"
-    };
-    let name = name_of(&DOMAIN_NAMES, k);
-    print!(rt;
-        "{f:>5} {:>6} {:>4} {payload:>7} {:>9} {:>9} {name:<7} {cost:>8}",
-        row.sender, row.fill, row.period, row.deadline
-    )?;
-    match answer {
-        Some(time) => println!(rt; " {time:>8} {verdict}")?,
-        None => println!(rt; "     none {verdict}")?,
-    }
-    Ok(())
+// A line of the table: what a frame's record says, and what the frame costs and how late it can be in one domain.
+#[derive(Clone, Copy)]
+struct Line {
+    number: usize,
+    frame: Frame,
+    domain: &'static str,
+    cost: u64,
+    answer: Option<u64>,
 }
 
-fn print_table<D: Domain>(rt: &HostRuntime, bank: &D, rows: &[Row]) -> anyhow::Result<()> {
+impl fmt::Display for Line {
+    fn fmt<W: fmt::Write>(&self, f: &mut fmt::Formatter<W>) -> fmt::Result {
+        let row = Row::from(self.frame);
+        let payload = self.frame.payload();
+        let verdict = if in_time(self.answer, row.deadline) {
+            "in time"
+        } else {
+            "late"
+        };
+        write!(
+            f,
+            "{:>5} {:>6} {:>4} {payload:>7} {:>9} {:>9} {:<7} {:>8}",
+            self.number, row.sender, row.fill, row.period, row.deadline, self.domain, self.cost
+        )?;
+        match self.answer {
+            Some(time) => write!(f, " {time:>8} {verdict}"),
+            None => write!(f, "     none {verdict}"),
+        }
+    }
+}
+
+fn print_table<D: Domain>(rt: &impl Print, bank: &D, rows: &[Row]) -> anyhow::Result<()> {
     println!(rt; "Times are in nanoseconds, frames in order of priority.")?;
     println!(rt;
         "frame sender fill payload    period  deadline domain      cost response verdict"
     )?;
-    for (f, row) in rows.iter().enumerate() {
+    for (number, row) in rows.iter().enumerate() {
         let frame = Frame::try_from(*row)?;
         for k in 0..bank.count() {
             if carries(k, row.set) {
-                print_line(rt, bank, k, rows, f, &frame)?;
+                let line = Line {
+                    number,
+                    frame,
+                    domain: name_of(&DOMAIN_NAMES, k),
+                    cost: bank.cost(k, &frame),
+                    answer: response_at(bank, k, rows, number),
+                };
+                println!(rt; "{line}")?;
             }
         }
     }
     Ok(())
 }
 
-fn run(rt: &HostRuntime) -> anyhow::Result<()> {
+fn run(rt: &impl Print) -> anyhow::Result<()> {
     print_busy_period(rt, &Bus::new(BIT, BIT)?)?;
     println!(rt)?;
     let bank = Pair::new(Gateway::new(20_000, 100)?, Radio::new(50_000)?);

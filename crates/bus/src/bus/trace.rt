@@ -12,7 +12,7 @@ use streams::rounding::div_up;
 use streams::totals::largest_cost;
 
 impl Bus {
-    // How long the bus is busy with the frame and those above it, at the worst; none where that has no end up to the horizon.
+    // How long the bus is at worst busy with the frame and those above it; none where it has no end up to the horizon.
     pub fn busy_period(&self, question: &Question<'_>) -> Option<u64>
         ensures { result ≡ asked (of_streams (bus_price self.now) bus_busy) question.now.rows.now question.now.places.now question.now.frame }
     {

@@ -71,7 +71,7 @@ impl Kind for Bus {
     }
 }
 
-// Each kind is a domain by an impl of its own, which is a rule of the project; its methods are those that the kinds share.
+// Each kind is a domain by an impl of its own, which is a rule of the project; its methods are what the kinds share.
 impl Domain for Bus {
     ghost count = { one };
 

@@ -5,6 +5,7 @@ ghost use Rattle.frames.specs.Records.{Checked, row_of};
 
 use crate::fault::RowFault;
 use crate::frame::Frame;
+use crate::limits::{MAX_FILL, MAX_PERIOD};
 use crate::payload::payload_of;
 use crate::row::Row;
 
@@ -22,10 +23,10 @@ impl TryFrom<Row> for Frame {
             deadline,
             set,
         } = row;
-        if fill < 1 || fill > 64 {
+        if fill < 1 || fill > MAX_FILL {
             return Err(RowFault::Fill);
         }
-        if period < 1_000_000 || period > 2_000_000_000 {
+        if period < 1_000_000 || period > MAX_PERIOD {
             return Err(RowFault::Period);
         }
         if deadline < 1 || deadline > period {

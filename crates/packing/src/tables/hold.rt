@@ -7,8 +7,9 @@ ghost use Rattle.packing.specs.Laws.{Placeable, WellPacked};
 ghost use Rattle.packing.specs.Packings.{packed, row, rows, rows_of, placed, taken_out};
 
 use crate::table::SignalTable;
-use crate::tables::{MAX_FRAMES, Tables};
+use crate::tables::Tables;
 use arrayvec::ArrayVec;
+use frames::limits::MAX_FRAMES;
 use frames::row::Row;
 use signals::gather::{BLANK, gather, join};
 use signals::signal::{Entry, Signal};

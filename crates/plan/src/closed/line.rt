@@ -5,6 +5,7 @@ ghost use Rattle.packing.specs.Packings.{row};
 ghost use Rattle.plan.specs.Stands.{place_in};
 
 use arrayvec::ArrayVec;
+use frames::limits::MAX_FRAMES;
 use frames::row::Row;
 use packing::tables::Tables;
 
@@ -20,7 +21,7 @@ pub(crate) fn place_of(numbers: &[u8], n: usize) -> usize
 }
 
 // The rows of the frames in order of priority.
-pub(crate) fn line_up(tables: &Tables, numbers: &[u8]) -> ArrayVec<Row, 96>
+pub(crate) fn line_up(tables: &Tables, numbers: &[u8]) -> ArrayVec<Row, MAX_FRAMES>
     requires { length numbers.now ≤ 96 }
     ensures { result.items ≡ map (row (held tables.now)) numbers.now }
 {

@@ -24,7 +24,7 @@ use timing::carried::carries;
 use timing::ranked::response_at;
 
 // Identifiers are multiples of this, so that late frames find room between two.
-const STEP: u16 = 8;
+pub const IDENTIFIER_STEP: u16 = 8;
 
 impl<B: Domain> Closed<B> {
     // Whether the plan has frame n.
@@ -70,7 +70,7 @@ impl<B: Domain> Closed<B> {
     {
         self.check_frame(n)?;
         let place = place_of(&self.placement()?.numbers, n);
-        Ok(STEP * (place as u16 + 1))
+        Ok(IDENTIFIER_STEP * (place as u16 + 1))
     }
 
     // How late frame n can be in domain k, in the order that stands.

@@ -10,14 +10,14 @@ use Rattle.kinds.specs.Looked.{Looked}
 use Rattle.kinds.specs.Rows.{stream_by}
 use Rattle.kinds.proofs.Singles.{all_fit, own_by}
 use Rattle.kinds.proofs.look.look.Goals as goal
-use Rattle.kinds.proofs.look.look.Goals.{then-question-gt96-via-then-question-gt96, then-question-gt96-via-else-question-gt96+then-question}
+use Rattle.kinds.proofs.look.look.Goals.{then-question-gt-MAX_FRAMES-via-then-question-gt-MAX_FRAMES, then-question-gt-MAX_FRAMES-via-else-question-gt-MAX_FRAMES+then-question}
 
-pub returns-then-question-gt96 : goal.returns-then-question-gt96
-returns-then-question-gt96 g c =
+pub returns-then-question-gt-MAX_FRAMES : goal.returns-then-question-gt-MAX_FRAMES
+returns-then-question-gt-MAX_FRAMES g c =
     let q = c.args.question.now in
-    λ response. elim c.then-question-gt96.branch [
-      | then-question-gt96-via-then-question-gt96 w ↦ asked_long response q.rows.now q.places.now q.frame w.if-question-gt96.true
-      | then-question-gt96-via-else-question-gt96+then-question w ↦ asked_outside response q.rows.now q.places.now q.frame w.if-question.true
+    λ response. elim c.then-question-gt-MAX_FRAMES.branch [
+      | then-question-gt-MAX_FRAMES-via-then-question-gt-MAX_FRAMES w ↦ asked_long response q.rows.now q.places.now q.frame w.if-question-gt-MAX_FRAMES.true
+      | then-question-gt-MAX_FRAMES-via-else-question-gt-MAX_FRAMES+then-question w ↦ asked_outside response q.rows.now q.places.now q.frame w.if-question.true
     ]
 
 pub returns-in_default : goal.returns-in_default

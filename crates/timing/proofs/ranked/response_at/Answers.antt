@@ -6,17 +6,17 @@ use Rattle.timing.specs.Carried.{carried}
 use Rattle.timing.proofs.Tables.{made_at}
 use Rattle.timing.proofs.Ranking.{ranked_response, long, outside, not_carried}
 use Rattle.timing.proofs.ranked.response_at.Goals as goal
-use Rattle.timing.proofs.ranked.response_at.Goals.{then-rows-gt96-via-then-rows-gt96, then-rows-gt96-via-else-rows-gt96+in_ok-get+then-not-carries}
+use Rattle.timing.proofs.ranked.response_at.Goals.{then-rows-gt-MAX_FRAMES-via-then-rows-gt-MAX_FRAMES, then-rows-gt-MAX_FRAMES-via-else-rows-gt-MAX_FRAMES+in_ok-get+then-not-carries}
 
 pub returns-in_err-get : goal.returns-in_err-get
 returns-in_err-get g c =
     let past : length c.args.rows.now ≤ c.args.f = search rules in
     c.from_residual.ensures ∙ outside _ c.args.k c.args.rows.now c.args.f past
 
-pub returns-then-rows-gt96 : goal.returns-then-rows-gt96
-returns-then-rows-gt96 g c = elim c.then-rows-gt96.branch [
-  | then-rows-gt96-via-then-rows-gt96 w ↦ long _ c.args.k c.args.rows.now c.args.f w.if-rows-gt96.true
-  | then-rows-gt96-via-else-rows-gt96+in_ok-get+then-not-carries w ↦
+pub returns-then-rows-gt-MAX_FRAMES : goal.returns-then-rows-gt-MAX_FRAMES
+returns-then-rows-gt-MAX_FRAMES g c = elim c.then-rows-gt-MAX_FRAMES.branch [
+  | then-rows-gt-MAX_FRAMES-via-then-rows-gt-MAX_FRAMES w ↦ long _ c.args.k c.args.rows.now c.args.f w.if-rows-gt-MAX_FRAMES.true
+  | then-rows-gt-MAX_FRAMES-via-else-rows-gt-MAX_FRAMES+in_ok-get+then-not-carries w ↦
       let row : w.in_ok-get.field-0.now ≡ get_or c.args.rows.now c.args.f no_row = search rules in
       not_carried _ c.args.k c.args.rows.now c.args.f (ap (carried c.args.k) (sym row) ∙ sym w.carries.ensures ∙ w.if-not-carries.true)
 ]
