@@ -1,5 +1,5 @@
 // Runs of plans: at both sides of each limit, in the order of the questions, of the tie rules, from signals to
-// identifiers and to a conflict, and of lists of calls.
+// identifiers and to a conflict, of lists of calls, and of listings.
 #![tactic(auto)]
 
 #[cfg(test)]
@@ -8,6 +8,8 @@ mod closings;
 mod drafts;
 #[cfg(test)]
 mod limits;
+#[cfg(test)]
+mod listings;
 #[cfg(test)]
 mod orders;
 #[cfg(test)]
