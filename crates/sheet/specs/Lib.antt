@@ -1,0 +1,7 @@
+pub mod Banks
+pub mod Faults
+pub mod Forms
+pub mod Heads
+pub mod Lines
+pub mod Runs
+pub mod Signals
