@@ -1,5 +1,5 @@
 -- The first four lines of a sheet: two buses, the gateway and the radio link. Assumes nothing.
-use Rattle.std.specs.Prelude.{◌≡◌, ℕ, List, [], ◌∷◌, ◌++◌, Some, Ok, Err, Result}
+use Rattle.std.specs.Prelude.{◌≡◌, ℕ, List, [], ◌∷◌, ◌++◌, Some, Ok, Err, Result, slice_index_or}
 use Rattle.std.specs.Borrow.{Bor}
 use Rattle.domains.specs.declared.fault.DomainFault.{DomainFault}
 use Rattle.domains.specs.declared.pair.Pair.{Pair}
@@ -15,20 +15,19 @@ use Rattle.sheet.specs.Faults.{of_domain}
 use Rattle.sheet.specs.Forms.{Form, bus_form, gateway_form, radio_form, line}
 use Rattle.sheet.specs.Lines.{AtFault}
 
+-- the value of field i, counted from 0
+abbrev pub field : List ℕ → ℕ → ℕ
+field vs i = slice_index_or vs i 0
+
 -- the limits of the figures that a line gives
 abbrev pub bus_limits : List ℕ → List Limited
-bus_limits [] = []
-bus_limits (a ∷ []) = []
-bus_limits (a ∷ (d ∷ vs)) = limited 1000 a 8000 ∷ limited 125 d a ∷ []
+bus_limits vs = limited 1000 (field vs 0) 8000 ∷ limited 125 (field vs 1) (field vs 0) ∷ []
 
 abbrev pub gateway_limits : List ℕ → List Limited
-gateway_limits [] = []
-gateway_limits (fixed ∷ []) = []
-gateway_limits (fixed ∷ (byte ∷ vs)) = limited 1000 fixed 100000 ∷ limited 0 byte 1000 ∷ []
+gateway_limits vs = limited 1000 (field vs 0) 100000 ∷ limited 0 (field vs 1) 1000 ∷ []
 
 abbrev pub radio_limits : List ℕ → List Limited
-radio_limits [] = []
-radio_limits (byte ∷ vs) = limited 10000 byte 200000 ∷ []
+radio_limits vs = limited 10000 (field vs 0) 200000 ∷ []
 
 -- the domain of line n is refused: one of its figures is the first outside its limits
 abbrev pub DomainRefuses : (List ℕ → List Limited) → ℕ → List ℕ → SheetFault → Type 0

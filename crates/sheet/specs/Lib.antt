@@ -3,5 +3,4 @@ pub mod Faults
 pub mod Forms
 pub mod Heads
 pub mod Lines
-pub mod Runs
 pub mod Signals

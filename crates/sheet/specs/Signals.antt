@@ -1,5 +1,5 @@
 -- The lines of a sheet after the first four: its signals. Assumes nothing.
-use Rattle.std.specs.Prelude.{◌≡◌, ◌≢◌, ℕ, ◌+◌, List, [], ◌∷◌, ◌++◌, length, Some, None, Ok, Err, Result}
+use Rattle.std.specs.Prelude.{◌≡◌, ◌≢◌, ℕ, ◌+◌, List, [], ◌∷◌, ◌++◌, length, Ok, Err, Result}
 use Rattle.std.specs.List.{AllByRecursion}
 use Rattle.std.specs.Borrow.{Bor}
 use Rattle.fields.specs.Fields.{AllFit}
@@ -7,8 +7,9 @@ use Rattle.signals.specs.declared.signal.Signal.{Signal}
 use Rattle.packing.specs.Packings.{Packing}
 use Rattle.plan.specs.declared.fault.PlanFault.{PlanFault}
 use Rattle.plan.specs.Banks.{Bank}
-use Rattle.plan.specs.Drafts.{entered}
-use Rattle.plan.specs.Questions.{first_no, enter_questions}
+use Rattle.plan.specs.Drafts.{entered, enter_says}
+use Rattle.plan.specs.Faults.{plan_told}
+use Rattle.plan.specs.Said.Said.{gives, refuses}
 use Rattle.sheet.specs.declared.fault.SheetFault.{SheetFault}
 use Rattle.sheet.specs.Faults.{of_plan}
 use Rattle.sheet.specs.Forms.{signal_form, line}
@@ -33,18 +34,14 @@ abbrev pub SignalRead : ℕ → List ℕ → Result (Signal × Bor (List ℕ)) S
 SignalRead n s (Ok read) = Named read.0 × (s ≡ signal_line read.0 ++ read.1.now)
 SignalRead n s (Err e) = OutOfForm signal_form n s e
 
--- the question of enter that is answered with no
-abbrev pub refusal : Bank → Packing → Signal → Option PlanFault
-refusal m p s = first_no (enter_questions m.domains m.cost p s)
-
 -- the signals are entered one after another, and none is refused
 abbrev pub Taken : Bank → Packing → List Signal → Packing → Type 0
 Taken m p [] q = q ≡ p
-Taken m p (s ∷ ss) q = (refusal m p s ≡ None) × Taken m (entered m.domains m.cost p s) ss q
+Taken m p (s ∷ ss) q = (enter_says m.domains m.cost p s ≡ gives []) × Taken m (entered m.domains m.cost p s) ss q
 
 -- the plan refuses the signal of line n
 abbrev pub PlanRefuses : Bank → Packing → ℕ → List ℕ → SheetFault → Type 0
-PlanRefuses m p n vs e = (s : Signal) × (x : PlanFault) × (vs ≡ signal_figures s) × (e ≡ of_plan n x) × (refusal m p s ≡ Some x)
+PlanRefuses m p n vs e = (s : Signal) × (x : PlanFault) × (vs ≡ signal_figures s) × (e ≡ of_plan n x) × (enter_says m.domains m.cost p s ≡ refuses (plan_told x))
 
 -- a line after the first four is at fault, and those before it have put their signals into the plan
 pub record SignalFault (m : Bank) (p : Packing) (s : List ℕ) (e : SheetFault) (q : Packing) : Type 0 where

@@ -1,5 +1,5 @@
 // Why the run of a sheet is refused, and where.
-ghost use Rattle.std.specs.Prelude.{◌≡◌};
+ghost use Rattle.std.specs.Prelude.{◌≡◌, MatchResult, Ok, Err};
 ghost use Rattle.sheet.specs.Faults.{cause_told, at_field, of_domain, of_plan, plan_field};
 
 use domains::fault::DomainFault;
@@ -56,6 +56,16 @@ pub struct SheetFault {
 pub struct OnLine<F> {
     pub line: u16,
     pub fault: F,
+}
+
+// What a call that was made on a line gave.
+pub(crate) fn on_line<T, F>(line: u16, called: Result<T, F>) -> Result<T, OnLine<F>>
+    ensures { MatchResult result (λ x. called ≡ Ok x) (λ e. (e.line ≡ line) × (called ≡ Err e.fault)) }
+{
+    match called {
+        Ok(given) => Ok(given),
+        Err(fault) => Err(OnLine { line, fault }),
+    }
 }
 
 impl From<OnLine<FieldFault>> for SheetFault {

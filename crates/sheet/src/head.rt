@@ -5,7 +5,7 @@ ghost use Rattle.bus.specs.Buses as B;
 ghost use Rattle.gateway.specs.Gateways as G;
 ghost use Rattle.radio.specs.Radios as R;
 
-use crate::fault::{OnLine, SheetFault};
+use crate::fault::{SheetFault, on_line};
 use crate::kind::Kind;
 use crate::line::read_line;
 use bus::bus::Bus;
@@ -21,7 +21,7 @@ fn read_bus(text: &[u8], line: u16) -> Result<(Bus, &[u8]), SheetFault>
 {
     let ([arbitration, bit], rest) = read_line(text, line, Kind::Bus, &[8, 8])?;
     let made = Bus::new(u64::from(arbitration), u64::from(bit));
-    Ok((made.map_err(|fault| OnLine { line, fault })?, rest))
+    Ok((on_line(line, made)?, rest))
 }
 
 fn read_gateway(text: &[u8], line: u16) -> Result<(Gateway, &[u8]), SheetFault>
@@ -29,7 +29,7 @@ fn read_gateway(text: &[u8], line: u16) -> Result<(Gateway, &[u8]), SheetFault>
 {
     let ([fixed, byte], rest) = read_line(text, line, Kind::Gateway, &[8, 8])?;
     let made = Gateway::new(u64::from(fixed), u64::from(byte));
-    Ok((made.map_err(|fault| OnLine { line, fault })?, rest))
+    Ok((on_line(line, made)?, rest))
 }
 
 fn read_radio(text: &[u8], line: u16) -> Result<(Radio, &[u8]), SheetFault>
@@ -37,7 +37,7 @@ fn read_radio(text: &[u8], line: u16) -> Result<(Radio, &[u8]), SheetFault>
 {
     let ([byte], rest) = read_line(text, line, Kind::Radio, &[8])?;
     let made = Radio::new(u64::from(byte));
-    Ok((made.map_err(|fault| OnLine { line, fault })?, rest))
+    Ok((on_line(line, made)?, rest))
 }
 
 // The bank of the first four lines, with the text after them.

@@ -2,9 +2,10 @@
 // It knows the kinds of domain, since the letters of a sheet name them, and the calls of a plan.
 #![tactic(auto)]
 
+mod body;
 pub mod fault;
 mod head;
 pub mod kind;
 mod line;
-pub mod run;
-mod signals;
+// pub mod run;
+

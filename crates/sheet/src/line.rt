@@ -1,5 +1,6 @@
 // The form of a line: its letter, its fields, and a line feed.
-ghost use Rattle.std.specs.Prelude.{◌≡◌, ◌≢◌, ◌≤◌, ◌∷◌, List, ℕ, All, MatchOption};
+ghost use Rattle.std.specs.Prelude.{◌≡◌, ◌≢◌, ◌≤◌, ◌∷◌, IsTrue, List, ℕ, MatchOption, nat_le};
+ghost use Rattle.std.specs.List.{list_all};
 ghost use Rattle.sheet.specs.Forms.{letter, form};
 ghost use Rattle.sheet.specs.Lines.{LineRead};
 
@@ -24,12 +25,15 @@ pub(crate) fn read_line<'a, const N: usize>(
     due: Kind,
     widths: &[u8; N],
 ) -> Result<([u32; N], &'a [u8]), SheetFault>
-    requires { All (λ w. w ≤ 8) widths.now }
+    requires few { N ≤ 254 }
+    requires narrow { IsTrue (list_all (λ w. nat_le w 8) widths.now) }
     ensures { LineRead (form due widths.now) line text.now result }
 {
     let Some(rest) = after_letter(text, due) else {
         return Err(SheetFault { cause: Cause::Letter, line, field: 0 });
     };
-    let read = read_line_end(rest, widths).map_err(|fault| OnLine { line, fault })?;
-    Ok(read)
+    match read_line_end(rest, widths) {
+        Ok(read) => Ok(read),
+        Err(fault) => Err(OnLine { line, fault }.into()),
+    }
 }

@@ -1,10 +1,10 @@
 // The lines of a sheet after the first four, each of which enters a signal.
-ghost use Rattle.std.specs.Prelude.{◌≡◌};
+ghost use Rattle.std.specs.Prelude.{◌≡◌, ◌≤◌, length};
 ghost use Rattle.packing.specs.Holds.{held};
 ghost use Rattle.plan.specs.Banks.{bank_of};
 ghost use Rattle.sheet.specs.Signals.{SignalRead, SignalsRead};
 
-use crate::fault::{OnLine, SheetFault};
+use crate::fault::{SheetFault, on_line};
 use crate::kind::Kind;
 use crate::line::read_line;
 use domains::domain::Domain;
@@ -30,6 +30,7 @@ fn read_signal(text: &[u8], line: u16) -> Result<(Signal, &[u8]), SheetFault>
 
 // Enters the signals of all lines, the first of which has number 5, up to the first fault.
 pub(crate) fn enter_all<B: Domain>(draft: &mut Draft<B>, text: &[u8]) -> Result<(), SheetFault>
+    requires { length text.now ≤ 16384 }
     ensures bank { draft.new.bank ≡ draft.old.bank }
     ensures read { SignalsRead (bank_of (B.count draft.old.bank) (B.cost draft.old.bank) (B.response draft.old.bank)) (held draft.old.tables) text.now result (held draft.new.tables) }
 {
@@ -37,7 +38,7 @@ pub(crate) fn enter_all<B: Domain>(draft: &mut Draft<B>, text: &[u8]) -> Result<
     let mut line = 5;
     while !rest.is_empty() {
         let (signal, after) = read_signal(rest, line)?;
-        draft.enter(signal).map_err(|fault| OnLine { line, fault })?;
+        on_line(line, draft.enter(signal))?;
         rest = after;
         line += 1;
     }
