@@ -1,4 +1,5 @@
--- Hexadecimal digits: how many they are, that they mean one number, and how one more is read or written. Assumes nothing.
+-- Hexadecimal digits: how many there are, that they mean one number, and how one more is read or written.
+-- Assumes nothing.
 use Rattle.std.proofs.Common.{◌≡◌, ℕ, zero, suc, ◌+◌, ◌-◌, ◌*◌, ◌/◌, ◌%◌, ◌^◌, ◌<◌, ◌≤◌, List, [], ◌∷◌, ◌++◌, length, drop, set, refl, sym, ap, ◌∙◌, arith, append_assoc, add-one}
 use Rattle.std.proofs.Math.Nat.{pow-suc, pow-le-pow_right}
 use Rattle.std.proofs.lemmas.List.{length_push, append-nil, drop_at, drop-set}

@@ -26,7 +26,7 @@ pub record Begins (ws : List ℕ) (k : ℕ) (s : List ℕ) : Type 0 where
   pub fit : AllFit (take k ws) values
   pub is : s ≡ fields (take k ws) values ++ rest
 
--- what a reading of fields and the line feed after them comes to: the values and what follows, or the first field at fault
+-- what reading fields and the line feed after them comes to: the values and what follows, or the first field at fault
 abbrev pub LineEnd : List ℕ → List ℕ → Result (List ℕ × List ℕ) FieldFault → Type 0
 LineEnd ws s (Ok read) = AllFit ws read.0 × (s ≡ fields ws read.0 ++ (10 ∷ read.1))
 LineEnd ws s (Err (Digits k)) = (1 ≤ k) × (k ≤ length ws) × Begins ws (k - 1) s × (Begins ws k s → ⊥)
@@ -38,8 +38,8 @@ abbrev pub ended : Result (List ℕ × Bor (List ℕ)) FieldFault → Result (Li
 ended (Ok read) = Ok (read.0, read.1.now)
 ended (Err fault) = Err fault
 
--- what a reading comes to of one number below a bound, which is written so: the number and what follows it, or none where no
--- such number is written there
+-- what reading one number below a bound comes to, which is written so: the number and what follows it, or none where
+-- no such number is written there
 abbrev pub NumberRead : (ℕ → List ℕ) → ℕ → List ℕ → Option (ℕ × Bor (List ℕ)) → Type 0
 NumberRead written bound s (Some read) = (read.0 < bound) × (s ≡ written read.0 ++ read.1.now)
 NumberRead written bound s None = (v : ℕ) (rest : List ℕ) → v < bound → s ≢ written v ++ rest

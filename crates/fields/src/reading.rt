@@ -6,10 +6,11 @@ ghost use Rattle.fields.specs.Fields.{LineEnd, NumberRead, ended};
 
 use crate::digits::digit_value;
 
-// Why the form of a line is at fault, with the number of the field, counted from 1; the line feed counts as the field after the last.
+// Why the form of a line is at fault, with the number of the field, counted from 1.
 #[derive(Clone, Copy, PartialEq, Eq, Debug)]
 pub enum FieldFault {
     Digits(u8),
+    // The line feed counts as the field after the last.
     Feed(u8),
 }
 
@@ -32,9 +33,9 @@ fn read_digits(text: &[u8], width: u8) -> Option<(u32, &[u8])>
     let mut value = 0;
     let mut rest = text;
     for _ in 0..width {
-        let (digit, after) = read_digit(rest)?;
+        let (digit, more) = read_digit(rest)?;
         value = value * 16 + u32::from(digit);
-        rest = after;
+        rest = more;
     }
     Some((value, rest))
 }
