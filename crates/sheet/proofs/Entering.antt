@@ -1,5 +1,5 @@
 -- The lines of a sheet that have put their signals into a plan, one more, and where they end. Assumes nothing.
-use Rattle.std.proofs.Common.{◌≡◌, ◌≢◌, ℕ, ◌+◌, ◌<◌, ◌≤◌, List, [], ◌∷◌, ◌++◌, length, refl, sym, ap, subst, ◌∙◌, arith, append_assoc, length-append, append-nil, None, Some, Option}
+use Rattle.std.proofs.Common.{◌≡◌, ◌≢◌, ℕ, ◌+◌, ◌≤◌, List, [], ◌∷◌, ◌++◌, length, refl, sym, ap, subst, ◌∙◌, arith, append_assoc, length-append, append-nil, None, Some, Option}
 use Rattle.std.specs.List.{AllByRecursion}
 use Rattle.signals.specs.declared.signal.Signal.{Signal}
 use Rattle.packing.specs.Packings.{Packing}
@@ -42,7 +42,7 @@ unfolding entered
 refused_same domains cost p s f = by_answer (first_no (enter_questions domains cost p s))
   where
     by_answer : (o : Option PlanFault) → unless_refused [] o ≡ refuses f → unless o (chosen p s (choice cost p s)) p ≡ p
-    by_answer None ()
+    by_answer None e = grind (arith, e)
     by_answer (Some x) e = refl
 
 -- up to the text that is left, the lines have put their signals into the plan; the next has this number

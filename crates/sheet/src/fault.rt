@@ -74,8 +74,16 @@ impl From<OnLine<FieldFault>> for SheetFault {
     fn from(met: OnLine<FieldFault>) -> SheetFault {
         let line = met.line;
         match met.fault {
-            FieldFault::Digits(field) => SheetFault { cause: Cause::Digits, line, field },
-            FieldFault::Feed(field) => SheetFault { cause: Cause::LineFeed, line, field },
+            FieldFault::Digits(field) => SheetFault {
+                cause: Cause::Digits,
+                line,
+                field,
+            },
+            FieldFault::Feed(field) => SheetFault {
+                cause: Cause::LineFeed,
+                line,
+                field,
+            },
         }
     }
 }

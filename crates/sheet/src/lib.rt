@@ -8,4 +8,3 @@ mod head;
 pub mod kind;
 mod line;
 // pub mod run;
-

@@ -30,7 +30,11 @@ pub(crate) fn read_line<'a, const N: usize>(
     ensures { LineRead (form due widths.now) line text.now result }
 {
     let Some(rest) = after_letter(text, due) else {
-        return Err(SheetFault { cause: Cause::Letter, line, field: 0 });
+        return Err(SheetFault {
+            cause: Cause::Letter,
+            line,
+            field: 0,
+        });
     };
     match read_line_end(rest, widths) {
         Ok(read) => Ok(read),

@@ -1,7 +1,6 @@
-use Rattle.std.proofs.Common.{◌≡◌, ◌≢◌, ℕ, ◌+◌, ◌≤◌, [], ◌++◌, length, refl, rules, sym, ap, subst, ◌∙◌, arith, length-append, append-nil}
+use Rattle.std.proofs.Common.{◌≡◌, ◌≢◌, [], ◌++◌, length, refl, rules, sym, ap, ◌∙◌, length-append, append-nil}
+use Rattle.std.proofs.lemmas.List.{nil_from_length}
 use Rattle.std.proofs.lemmas.Result.{err_from_is_err_and}
-use Rattle.packing.specs.Holds.{held}
-use Rattle.plan.specs.Banks.{bank_of}
 use Rattle.sheet.specs.Signals.{signal_line, signal_lines}
 use Rattle.sheet.specs.Faults.{of_plan}
 use Rattle.sheet.specs.Lines.AtFault.{form, asked}
@@ -54,5 +53,6 @@ returns-clause-bank g c = c.loop-rest.invariant.0
 pub returns-clause-read : goal.returns-clause-read
 returns-clause-read g c =
     let h = c.loop-rest.invariant.1 in
-    let none : c.loop-rest.rest.now ≡ [] = search rules in
+    let empty : length c.loop-rest.rest.now ≡ 0 = search rules in
+    let none = nil_from_length c.loop-rest.rest.now empty in
     (h.before, h.named, h.is ∙ ap (λ t. signal_lines h.before ++ t) none ∙ append-nil (signal_lines h.before), h.taken)

@@ -1,4 +1,4 @@
-use Rattle.std.proofs.Common.{◌≡◌, ℕ, length}
+use Rattle.std.proofs.Common.{◌≡◌, length}
 use Rattle.packing.specs.Holds.{held}
 use Rattle.plan.specs.Banks.{bank_of}
 use Rattle.sheet.proofs.Entering.{Entered}

@@ -1,6 +1,6 @@
-use Rattle.std.proofs.Common.{◌≡◌, ◌++◌, List, ℕ, refl, ap, ◌∙◌}
+use Rattle.std.proofs.Common.{◌++◌, ap, ◌∙◌}
 use Rattle.std.proofs.lemmas.Result.{err_from_is_err_and}
-use Rattle.sheet.specs.Heads.{bus_line, gateway_line}
+use Rattle.sheet.specs.Heads.{bus_line}
 use Rattle.sheet.specs.Heads.HeadFault.{second_bus, gateway, radio}
 use Rattle.sheet.proofs.head.read_bank.Goals as goal
 

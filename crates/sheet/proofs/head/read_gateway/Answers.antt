@@ -1,9 +1,6 @@
-use Rattle.std.proofs.Common.{rules, subst, ap}
+use Rattle.std.proofs.Common.{rules, ap}
 use Rattle.std.proofs.lemmas.Result.{err_from_is_err_and}
-use Rattle.domains.specs.Faults.{Made}
-use Rattle.gateway.specs.Gateways.{figures}
 use Rattle.sheet.specs.Faults.{of_domain}
-use Rattle.sheet.specs.Heads.{gateway_limits}
 use Rattle.sheet.specs.Lines.AtFault.{form, asked}
 use Rattle.sheet.proofs.head.read_gateway.Goals as goal
 

@@ -1,9 +1,6 @@
-use Rattle.std.proofs.Common.{rules, subst, ap}
+use Rattle.std.proofs.Common.{rules, ap}
 use Rattle.std.proofs.lemmas.Result.{err_from_is_err_and}
-use Rattle.domains.specs.Faults.{Made}
-use Rattle.radio.specs.Radios.{figures}
 use Rattle.sheet.specs.Faults.{of_domain}
-use Rattle.sheet.specs.Heads.{radio_limits}
 use Rattle.sheet.specs.Lines.AtFault.{form, asked}
 use Rattle.sheet.proofs.head.read_radio.Goals as goal
 
