@@ -1,0 +1,4 @@
+mod Clashing
+mod Placing
+mod Telling
+mod Writing
