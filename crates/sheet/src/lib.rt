@@ -7,4 +7,4 @@ pub mod fault;
 mod head;
 pub mod kind;
 mod line;
-// pub mod run;
+pub mod run;
