@@ -6,3 +6,4 @@ pub mod Heads
 pub mod Lines
 pub mod Runs
 pub mod Signals
+pub mod Texts

@@ -1,10 +1,13 @@
 // Why the run of a sheet is refused, and where.
-ghost use Rattle.std.specs.Prelude.{◌≡◌, MatchResult, Ok, Err};
+ghost use Rattle.std.specs.Prelude.{◌≡◌, MatchResult, Ok, Err, Some};
 ghost use Rattle.sheet.specs.Faults.{cause_told, at_field, of_domain, of_plan, plan_field};
+ghost use Rattle.sheet.specs.Texts.{cause_text, sheet_fault_text};
 
 use domains::fault::DomainFault;
 use fields::reading::FieldFault;
 use plan::fault::PlanFault;
+use std::error::Error;
+use std::fmt;
 
 #[derive(Clone, Copy, PartialEq, Eq, Debug)]
 pub enum Cause {
@@ -41,6 +44,22 @@ impl Cause {
     }
 }
 
+impl fmt::Display for Cause {
+    ghost output = { λ c. Some (cause_text c) };
+
+    fn fmt<W: fmt::Write>(&self, f: &mut fmt::Formatter<W>) -> fmt::Result {
+        match self {
+            Cause::Output => f.write_str("the output is shorter than the longest listing"),
+            Cause::Length => f.write_str("the sheet is longer than a sheet may be"),
+            Cause::Letter => f.write_str("the letter of the line is not the one due"),
+            Cause::Digits => f.write_str("a field is not one space and its exact digits"),
+            Cause::LineFeed => f.write_str("no line feed follows the last field"),
+            Cause::Domain(fault) => write!(f, "{fault}"),
+            Cause::Plan(fault) => write!(f, "{fault}"),
+        }
+    }
+}
+
 // A refusal of the whole sheet stands at line 0, field 0.
 #[derive(Clone, Copy, PartialEq, Eq, Debug)]
 pub struct SheetFault {
@@ -50,6 +69,20 @@ pub struct SheetFault {
     // The letter is field 0.
     pub field: u8,
 }
+
+impl fmt::Display for SheetFault {
+    ghost output = { λ e. Some (sheet_fault_text e) };
+
+    fn fmt<W: fmt::Write>(&self, f: &mut fmt::Formatter<W>) -> fmt::Result {
+        let SheetFault { cause, line, field } = self;
+        if *line == 0 {
+            return write!(f, "{cause}");
+        }
+        write!(f, "line {line}, field {field}: {cause}")
+    }
+}
+
+impl Error for SheetFault {}
 
 // A fault, and the line where it was met.
 #[derive(Clone, Copy, PartialEq, Eq, Debug)]
