@@ -19,5 +19,5 @@ bank_short d rest =
 
 pub come : (s : List ℕ) (d : Four) (rest : List ℕ) → length s ≤ 16384 → s ≡ bank_lines d rest
     → (r : Result (Listing × Result Counted PlanFault) SheetFault) → LinesCome (sheet_bank d) rest r → SheetComes s r
-come s d rest short is (Ok given) h = (d, h.0, h.1, record { short = short; lines = rest; is = is; entered = h.2 }, h.3)
+come s d rest short is (Ok given) h = (d, h.0, h.1, record { short = short; lines = rest; is = is; entered = h.2; plan = h.3 }, h.4)
 come s d rest short is (Err e) h = body d rest h.0 short is h.1

@@ -15,6 +15,7 @@ use Rattle.sheet.specs.declared.fault.SheetFault.{SheetFault}
 use Rattle.sheet.specs.Banks.{sheet_bank}
 use Rattle.sheet.specs.Faults.{at}
 use Rattle.sheet.specs.Heads.{Four, bank_lines, HeadFault}
+use Rattle.sheet.specs.Plans.{PlanOf}
 use Rattle.sheet.specs.Signals.{Named, Taken, SignalFault, signal_lines}
 
 -- a plan of no signals
@@ -30,7 +31,7 @@ abbrev pub Entered : Bank → List ℕ → List Signal → Packing → Type 0
 Entered m s ss p = AllByRecursion Named ss × (s ≡ signal_lines ss) × Taken m empty ss p
 
 abbrev pub LinesCome : Bank → List ℕ → Result (Listing × Result Counted PlanFault) SheetFault → Type 0
-LinesCome m s (Ok given) = (ss : List Signal) × (p : Packing) × Entered m s ss p × Listed m p given
+LinesCome m s (Ok given) = (ss : List Signal) × (p : Packing) × Entered m s ss p × PlanOf m ss p × Listed m p given
 LinesCome m s (Err e) = (q : Packing) × SignalFault m empty s e q
 
 -- the first fault of a sheet: it is too long, one of the first four lines is at fault, or a later one
@@ -46,6 +47,7 @@ pub record Lawful (s : List ℕ) (d : Four) (ss : List Signal) (p : Packing) : T
   pub lines : List ℕ
   pub is : s ≡ bank_lines d lines
   pub entered : Entered (sheet_bank d) lines ss p
+  pub plan : PlanOf (sheet_bank d) ss p
 
 abbrev pub SheetComes : List ℕ → Result (Listing × Result Counted PlanFault) SheetFault → Type 0
 SheetComes s (Ok given) = (d : Four) × (ss : List Signal) × (p : Packing) × Lawful s d ss p × Listed (sheet_bank d) p given
