@@ -1,16 +1,16 @@
 -- Signals that are entered without a refusal, and the plan that they come to. Assumes nothing.
-use Rattle.std.proofs.Common.{◌≡◌, ℕ, ◌≤◌, List, [], ◌∷◌, ◌++◌, map, refl, ap, ◌∙◌, subst, sym}
+use Rattle.std.proofs.Common.{◌≡◌, ℕ, ◌≤◌, List, [], ◌∷◌, ◌++◌, map, refl, ap, sym}
 use Rattle.signals.specs.declared.signal.Signal.{Signal}
 use Rattle.packing.specs.Packings.{Packing}
 use Rattle.timing.specs.Laws.{Laws}
 use Rattle.plan.specs.Banks.{Bank, in_time}
-use Rattle.plan.specs.Closes.{ordered, order_says}
+use Rattle.plan.specs.Closes.{ordered}
 use Rattle.plan.specs.Drafts.{entered}
 use Rattle.plan.specs.Said.Said.{gives}
 use Rattle.runs.specs.declared.call.Call.{Call}
 use Rattle.runs.specs.declared.call.Call.TheVariants.{Enter, Close, Order}
 use Rattle.runs.specs.Books.{new, draft, run, replies, shut}
-use Rattle.runs.specs.Replies.{of_change, of_move, of_order}
+use Rattle.runs.specs.Replies.{of_change}
 use Rattle.runs.proofs.Promises.{promised}
 use Rattle.sheet.specs.Comes.{empty}
 use Rattle.sheet.specs.Plans.{calls, PlanOf}

@@ -37,7 +37,7 @@ LinesCome m s (Err e) = (q : Packing) × SignalFault m empty s e q
 -- the first fault of a sheet: it is too long, one of the first four lines is at fault, or a later one
 pub data Faulty (s : List ℕ) : SheetFault → Type 0 where
   long : 16384 < length s → Faulty s (at Length 0 0)
-  head : {e : SheetFault} → length s ≤ 16384 → HeadFault s e → Faulty s e
+  head : {e : SheetFault} → length s ≤ 16384 → HeadFault e s → Faulty s e
   body : {e : SheetFault} (d : Four) (rest : List ℕ) (q : Packing) → length s ≤ 16384 → s ≡ bank_lines d rest → SignalFault (sheet_bank d) empty rest e q → Faulty s e
 
 -- a sheet without fault: it is written out from the figures of four domains and from signals that are entered one after

@@ -54,14 +54,24 @@ Four = Pair (Pair Bus Bus) (Pair Gateway Radio)
 abbrev pub bank_lines : Four → List ℕ → List ℕ
 bank_lines d rest = bus_line d.first.first ++ (bus_line d.first.second ++ (gateway_line d.second.first ++ (radio_line d.second.second ++ rest)))
 
+-- a fault at line n or later: this line is at fault, or it gives a domain and what follows is
+pub data FromLine {D : Type 0} (f : Form) (figures : D → List ℕ) (limits : List ℕ → List Limited) (n : ℕ) (Later : List ℕ → Type 0) (s : List ℕ) (e : SheetFault) : Type 0 where
+  here : AtFault f n (DomainRefuses limits n) s e → FromLine f figures limits n Later s e
+  later : (d : D) (rest : List ℕ) → s ≡ line f (figures d) ++ rest → Later rest → FromLine f figures limits n Later s e
+
 -- one of the first four lines is at fault, and those before it are not
-pub data HeadFault (s : List ℕ) (e : SheetFault) : Type 0 where
-  first_bus : AtFault bus_form 1 (DomainRefuses bus_limits 1) s e → HeadFault s e
-  second_bus : (a : Bus) (rest : List ℕ) → s ≡ bus_line a ++ rest → AtFault bus_form 2 (DomainRefuses bus_limits 2) rest e → HeadFault s e
-  gateway : (a b : Bus) (rest : List ℕ) → s ≡ bus_line a ++ (bus_line b ++ rest) → AtFault gateway_form 3 (DomainRefuses gateway_limits 3) rest e → HeadFault s e
-  radio : (a b : Bus) (g : Gateway) (rest : List ℕ) → s ≡ bus_line a ++ (bus_line b ++ (gateway_line g ++ rest)) → AtFault radio_form 4 (DomainRefuses radio_limits 4) rest e
-      → HeadFault s e
+abbrev pub RadioFault : SheetFault → List ℕ → Type 0
+RadioFault e s = FromLine radio_form R.figures radio_limits 4 (λ t. ⊥) s e
+
+abbrev pub GatewayFault : SheetFault → List ℕ → Type 0
+GatewayFault e s = FromLine gateway_form G.figures gateway_limits 3 (RadioFault e) s e
+
+abbrev pub SecondBusFault : SheetFault → List ℕ → Type 0
+SecondBusFault e s = FromLine bus_form B.figures bus_limits 2 (GatewayFault e) s e
+
+abbrev pub HeadFault : SheetFault → List ℕ → Type 0
+HeadFault e s = FromLine bus_form B.figures bus_limits 1 (SecondBusFault e) s e
 
 abbrev pub BankRead : List ℕ → Result (Four × Bor (List ℕ)) SheetFault → Type 0
 BankRead s (Ok read) = s ≡ bank_lines read.0 read.1.now
-BankRead s (Err e) = HeadFault s e
+BankRead s (Err e) = HeadFault e s

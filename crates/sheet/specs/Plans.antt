@@ -1,5 +1,5 @@
 -- The plan of a sheet's signals. Assumes nothing.
-use Rattle.std.specs.Prelude.{◌≡◌, ℕ, List, [], ◌∷◌, ◌++◌, map}
+use Rattle.std.specs.Prelude.{◌≡◌, List, [], ◌∷◌, ◌++◌, map}
 use Rattle.signals.specs.declared.signal.Signal.{Signal}
 use Rattle.packing.specs.Packings.{Packing}
 use Rattle.plan.specs.Banks.{Bank}
