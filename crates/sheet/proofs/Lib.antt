@@ -1,3 +1,5 @@
 pub mod Entering
+pub mod Lining
 pub mod Planning
 pub mod Sheeting
+pub mod Telling
