@@ -1,4 +1,5 @@
 pub mod Entering
+pub mod Heading
 pub mod Lining
 pub mod Planning
 pub mod Sheeting
