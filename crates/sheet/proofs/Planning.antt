@@ -1,9 +1,13 @@
 -- Signals that are entered without a refusal, and the plan that they come to. Assumes nothing.
-use Rattle.std.proofs.Common.{◌≡◌, ℕ, ◌≤◌, List, [], ◌∷◌, ◌++◌, map, refl, ap, sym}
+use Rattle.std.proofs.Common.{◌≡◌, ℕ, ◌≤◌, List, [], ◌∷◌, ◌++◌, map, Option, refl, ap, sym}
+use Rattle.frames.specs.declared.row.Row.{Row}
+use Rattle.domains.specs.Duties.{Duties}
 use Rattle.signals.specs.declared.signal.Signal.{Signal}
 use Rattle.packing.specs.Packings.{Packing}
 use Rattle.timing.specs.Laws.{Laws}
-use Rattle.plan.specs.Banks.{Bank, in_time}
+use Rattle.timing.proofs.Combining.{everywhere_laws}
+use Rattle.weights.proofs.Weighing.{cost_grows}
+use Rattle.plan.specs.Banks.{Bank, bank_of, in_time}
 use Rattle.plan.specs.Closes.{ordered}
 use Rattle.plan.specs.Drafts.{entered}
 use Rattle.plan.specs.Said.Said.{gives}
@@ -26,8 +30,13 @@ module _ (m : Bank) where
   taken_said p [] q cs t = ap (λ x. replies m (draft x) cs) (sym t)
   taken_said p (s ∷ ss) q cs t = rw t.0 (ap (λ l. of_change (gives []) ∷ l) (taken_said (entered m.domains m.cost p s) ss q cs t.1))
 
-  pub plan_of : Laws (in_time m) → m.domains ≤ 4 → ((k a b : ℕ) → a ≤ b → b ≤ 64 → m.cost k a ≤ m.cost k b) → (ss : List Signal) (p : Packing) → Taken m empty ss p → PlanOf m ss p
+  plan_of : Laws (in_time m) → m.domains ≤ 4 → ((k a b : ℕ) → a ≤ b → b ≤ 64 → m.cost k a ≤ m.cost k b) → (ss : List Signal) (p : Packing) → Taken m empty ss p → PlanOf m ss p
   plan_of laws at_most up ss p t = record {
     promise = promised m laws at_most up (calls ss) (shut p (ordered m p)) (replies m new (calls ss)) (sym (taken_run empty ss p (Close ∷ Order ∷ []) t)) refl;
     said = taken_said empty ss p (Close ∷ Order ∷ []) t;
   }
+
+-- over a bank that keeps the duties
+pub plan_by : {B : Type 0} {count : B → ℕ} {cost : B → ℕ → ℕ → ℕ} {response : B → ℕ → Row → List Row → List Row → Option ℕ} → Duties count cost response
+    → (b : B) (ss : List Signal) (p : Packing) → Taken (bank_of (count b) (cost b) (response b)) empty ss p → PlanOf (bank_of (count b) (cost b) (response b)) ss p
+plan_by {count = n} {cost = c} {response = r} duties b = plan_of (bank_of (n b) (c b) (r b)) (everywhere_laws duties b) (duties.sized b).1 (cost_grows n c r duties b)

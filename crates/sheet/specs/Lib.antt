@@ -4,6 +4,7 @@ pub mod Faults
 pub mod Forms
 pub mod Heads
 pub mod Lines
+pub mod Meaning
 pub mod Plans
 pub mod Runs
 pub mod Signals

@@ -7,4 +7,5 @@ pub mod fault;
 mod head;
 pub mod kind;
 mod line;
+pub mod meaning;
 pub mod run;
