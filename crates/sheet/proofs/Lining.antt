@@ -15,7 +15,8 @@ module _ (f : Form) where
   line_shape vs r = ap (λ t. f.first ∷ t) (append_assoc (fields f.widths vs) (10 ∷ []) r)
 
   -- the same text is that of a line with the same values, whatever follows it
-  pub line_apart : (vs us r q : List ℕ) → AllFit f.widths vs → AllFit f.widths us → line f vs ++ r ≡ line f us ++ q → (vs ≡ us) × (r ≡ q)
+  pub line_apart : (vs us r q : List ℕ) → AllFit f.widths vs → AllFit f.widths us → line f vs ++ r ≡ line f us ++ q
+      → (vs ≡ us) × (r ≡ q)
   line_apart vs us r q h g e =
       let ends : f.first ∷ (fields f.widths vs ++ (10 ∷ r)) ≡ f.first ∷ (fields f.widths us ++ (10 ∷ q)) = sym (line_shape vs r) ∙ e ∙ line_shape us q in
       let tails : fields f.widths vs ++ (10 ∷ r) ≡ fields f.widths us ++ (10 ∷ q) = cc in
@@ -45,7 +46,8 @@ module _ (f : Form) where
 
     module _ (Refused : List ℕ → SheetFault → Type 0) where
       -- a line has one fault where the values that are refused have one
-      pub at_fault_one : ((vs : List ℕ) (e x : SheetFault) → Refused vs e → Refused vs x → e ≡ x) → (e x : SheetFault) → AtFault f n Refused s e → AtFault f n Refused s x → e ≡ x
+      pub at_fault_one : ((vs : List ℕ) (e x : SheetFault) → Refused vs e → Refused vs x → e ≡ x)
+          → (e x : SheetFault) → AtFault f n Refused s e → AtFault f n Refused s x → e ≡ x
       at_fault_one one e x (form h) (form g) = out_of_form_one e x h g
       at_fault_one one e x (form h) (asked vs r fit is why) = absurd (out_of_form_no e vs r fit is h)
       at_fault_one one e x (asked vs r fit is why) (form g) = absurd (out_of_form_no x vs r fit is g)
@@ -54,7 +56,8 @@ module _ (f : Form) where
           one us e x (subst (λ k. Refused k e) same.0 why) other
 
       -- and none where they are not refused
-      pub at_fault_no : (e : SheetFault) (vs r : List ℕ) → AllFit f.widths vs → s ≡ line f vs ++ r → (Refused vs e → ⊥) → AtFault f n Refused s e → ⊥
+      pub at_fault_no : (e : SheetFault) (vs r : List ℕ) → AllFit f.widths vs → s ≡ line f vs ++ r → (Refused vs e → ⊥)
+          → AtFault f n Refused s e → ⊥
       at_fault_no e vs r h is none (form g) = out_of_form_no e vs r h is g
       at_fault_no e vs r h is none (asked us q fit has why) =
           let same = line_apart us vs q r fit h (sym has ∙ is) in

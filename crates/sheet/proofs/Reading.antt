@@ -25,7 +25,8 @@ record Read (s : List ℕ) (d : Four) (ss : List Signal) (p : Packing) (o : Opti
   is : s ≡ bank_lines d lines
   walk : Walk (sheet_bank d) empty 5 lines ss p o
 
-read_one : (s : List ℕ) (d c : Four) (ss ts : List Signal) (p q : Packing) (o x : Option SheetFault) → Read s d ss p o → Read s c ts q x → (d ≡ c) × (ss ≡ ts) × (p ≡ q) × (o ≡ x)
+read_one : (s : List ℕ) (d c : Four) (ss ts : List Signal) (p q : Packing) (o x : Option SheetFault)
+    → Read s d ss p o → Read s c ts q x → (d ≡ c) × (ss ≡ ts) × (p ≡ q) × (o ≡ x)
 read_one s d c ss ts p q o x h g =
     let banks = bank_apart d c h.lines g.lines (sym h.is ∙ g.is) in
     let h₁ = subst (λ b. Walk (sheet_bank b) empty 5 h.lines ss p o) banks.0 h.walk in
@@ -36,10 +37,12 @@ read_one s d c ss ts p q o x h g =
 read_lawful : (s : List ℕ) (d : Four) (ss : List Signal) (p : Packing) → Lawful s d ss p → Read s d ss p None
 read_lawful s d ss p h = record { lines = h.lines; is = h.is; walk = walk_whole (sheet_bank d) h.lines ss p h.entered }
 
-read_faulty : (s : List ℕ) (e : SheetFault) (d : Four) (r : List ℕ) (p : Packing) → s ≡ bank_lines d r → (h : SignalFault (sheet_bank d) empty r e p) → Read s d h.before p (Some e)
+read_faulty : (s : List ℕ) (e : SheetFault) (d : Four) (r : List ℕ) (p : Packing) → s ≡ bank_lines d r
+    → (h : SignalFault (sheet_bank d) empty r e p) → Read s d h.before p (Some e)
 read_faulty s e d r p is h = record { lines = r; is = is; walk = walk_fault (sheet_bank d) r e p h }
 
-pub lawful_one : (s : List ℕ) (d c : Four) (ss ts : List Signal) (p q : Packing) → Lawful s d ss p → Lawful s c ts q → (d ≡ c) × (ss ≡ ts) × (p ≡ q)
+pub lawful_one : (s : List ℕ) (d c : Four) (ss ts : List Signal) (p q : Packing)
+    → Lawful s d ss p → Lawful s c ts q → (d ≡ c) × (ss ≡ ts) × (p ≡ q)
 lawful_one s d c ss ts p q h g =
     let same = read_one s d c ss ts p q None None (read_lawful s d ss p h) (read_lawful s c ts q g) in
     (same.0, same.1, same.2)

@@ -49,7 +49,8 @@ module _ (m : Bank) where
       ap Some (at_fault_one signal_form n rest (PlanRefuses m p n) (refused_one p n) e x h.1 g.1)
 
   -- a signal that is not refused is no end
-  end_no : (p : Packing) (n : ℕ) (s : Signal) (rest : List ℕ) (o : Option SheetFault) → Named s → enter_says m.domains m.cost p s ≡ gives [] → End p n (signal_line s ++ rest) o → ⊥
+  end_no : (p : Packing) (n : ℕ) (s : Signal) (rest : List ℕ) (o : Option SheetFault) → Named s → enter_says m.domains m.cost p s ≡ gives []
+      → End p n (signal_line s ++ rest) o → ⊥
   end_no p n s rest None named says h = cc h
   end_no p n s rest (Some e) named says h =
       at_fault_no signal_form n (signal_line s ++ rest) (PlanRefuses m p n) e (signal_figures s) rest named refl
@@ -93,7 +94,8 @@ module _ (m : Bank) where
         end_no p (n + 0) s (signal_lines ss ++ h.rest) x h.named.0 h.taken.0
         (subst (λ t. End p (n + 0) t x) rest (subst (λ r. End r (n + 0) g.rest x) g.taken g.end))
 
-  pub walk_one : (ss ts : List Signal) (p : Packing) (n : ℕ) (text : List ℕ) (q u : Packing) (o x : Option SheetFault) → Walk p n text ss q o → Walk p n text ts u x → (ss ≡ ts) × (q ≡ u) × (o ≡ x)
+  pub walk_one : (ss ts : List Signal) (p : Packing) (n : ℕ) (text : List ℕ) (q u : Packing) (o x : Option SheetFault)
+      → Walk p n text ss q o → Walk p n text ts u x → (ss ≡ ts) × (q ≡ u) × (o ≡ x)
   walk_one [] [] p n text q u o x h g =
       let packings = h.taken ∙ sym g.taken in
       let rests : h.rest ≡ g.rest = sym h.is ∙ g.is in

@@ -26,7 +26,8 @@ sheet_plan d ss p t =
     let links = pair_duties {P = Pair Gateway Radio} (λ p. p.first) (λ p. p.second) (kind_duties gateway_kept) (kind_duties radio_kept) in
     plan_by (pair_duties {P = Four} (λ p. p.first) (λ p. p.second) buses links) d ss p t
 
-pub written_back : (d : Four) (ss : List Signal) (p : Packing) → AllByRecursion Named ss → length (bank_lines d (signal_lines ss)) ≤ 16384 → Taken (sheet_bank d) empty ss p
+pub written_back : (d : Four) (ss : List Signal) (p : Packing) → AllByRecursion Named ss
+    → length (bank_lines d (signal_lines ss)) ≤ 16384 → Taken (sheet_bank d) empty ss p
     → Lawful (bank_lines d (signal_lines ss)) d ss p
 written_back d ss p named short t = record {
   short = short;

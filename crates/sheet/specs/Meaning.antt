@@ -14,10 +14,11 @@ use Rattle.sheet.specs.Signals.{Named, Taken, signal_lines}
 pub record Meaning : Type 0 where
   -- a sheet that is written out from four domains and from signals is read back as those, where each signal has its
   -- digits and is not refused in its turn, and the sheet is not too long
-  pub read_back : (d : Four) (ss : List Signal) (p : Packing) → AllByRecursion Named ss → length (bank_lines d (signal_lines ss)) ≤ 16384 → Taken (sheet_bank d) empty ss p
-      → Lawful (bank_lines d (signal_lines ss)) d ss p
+  pub read_back : (d : Four) (ss : List Signal) (p : Packing) → AllByRecursion Named ss
+      → length (bank_lines d (signal_lines ss)) ≤ 16384 → Taken (sheet_bank d) empty ss p → Lawful (bank_lines d (signal_lines ss)) d ss p
   -- a sheet is read in one way: as these four domains, these signals and this packing of them
-  pub one_reading : (s : List ℕ) (d c : Four) (ss ts : List Signal) (p q : Packing) → Lawful s d ss p → Lawful s c ts q → (d ≡ c) × (ss ≡ ts) × (p ≡ q)
+  pub one_reading : (s : List ℕ) (d c : Four) (ss ts : List Signal) (p q : Packing)
+      → Lawful s d ss p → Lawful s c ts q → (d ≡ c) × (ss ≡ ts) × (p ≡ q)
   -- sheets that are read as the same domains and signals are the same, so sheets that differ are read as different ones
   pub one_sheet : (s t : List ℕ) (d : Four) (ss : List Signal) (p q : Packing) → Lawful s d ss p → Lawful t d ss q → s ≡ t
   -- a sheet has one first fault: one cause, at one field of one line
