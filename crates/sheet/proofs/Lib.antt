@@ -1,0 +1,9 @@
+pub mod Entering
+pub mod Heading
+pub mod Lining
+pub mod Reading
+pub mod Planning
+pub mod Sheeting
+pub mod Telling
+pub mod Walking
+pub mod Writing

@@ -1,0 +1,11 @@
+pub mod Banks
+pub mod Comes
+pub mod Faults
+pub mod Forms
+pub mod Heads
+pub mod Lines
+pub mod Meaning
+pub mod Plans
+pub mod Runs
+pub mod Signals
+pub mod Texts
