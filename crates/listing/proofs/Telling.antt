@@ -1,7 +1,7 @@
 -- What a listing tells. Assumes nothing.
 use Rattle.std.proofs.Common.{◌≡◌, ℕ, ◌*◌, ◌<◌, ◌≤◌, Bool, true, List, [], ◌∷◌, ◌++◌, map, length, filter, sym, refl, ap, subst, arith, lit<}
 use Rattle.std.specs.List.{AllByRecursion, AllZip, flat_map, range_with_len}
-use Rattle.std.proofs.lemmas.Bool.{cond_both}
+use Rattle.std.proofs.lemmas.Bool.{cond_both, cond-true, lt-ltb}
 use Rattle.std.proofs.lemmas.List.{length-append, length-map}
 use Rattle.std.proofs.lemmas.List.FromFn.{length-range_with_len}
 use Rattle.fields.specs.Fields.{AllFit}
@@ -18,12 +18,13 @@ use Rattle.packing.proofs.Words.{well_packed}
 use Rattle.timing.specs.Carried.{in_set}
 use Rattle.timing.specs.Everywhere.{four}
 use Rattle.plan.specs.Banks.{Bank}
-use Rattle.plan.specs.Closes.{identifier_says, response_says}
+use Rattle.plan.specs.Closes.{figures, identifier_says, response_says}
+use Rattle.plan.specs.Said.{unless_refused}
 use Rattle.plan.specs.Stands.{Stands, among}
 use Rattle.plan.specs.Stands.Stands.{nothing, order, conflict}
 use Rattle.plan.specs.Subject.{Heard, OrderStands, ConflictStands, Upheld}
-use Rattle.listing.specs.Lines.{feed, row_text, times_text, times_in, value_said, domains_of, order_line, conflict_line, listing}
-use Rattle.listing.specs.Tells.{RowFits, OrderLine, OrderTold, ConflictTold, Told}
+use Rattle.listing.specs.Lines.{feed, row_widths, row_values, row_text, times_widths, times_text, times_in, value_said, domains_of, order_line, conflict_line, listing}
+use Rattle.listing.specs.Tells.{OrderLine, OrderTold, ConflictTold, Told}
 use Rattle.listing.proofs.Clashing.{in_list_order}
 use Rattle.listing.proofs.Placing.{order_long, all_below}
 
@@ -66,7 +67,7 @@ each_carried set (k ∷ ks) h =
     cond_both (in_set k set) _ _ (AllByRecursion (λ k. (k < 4) × (in_set k set ≡ true))) (λ e. ((h.0, e), each_carried set ks h.1)) (λ _. each_carried set ks h.1)
 
 -- a row of a plan has room in its fields
-pub row_fits : (p : Packing) → Sound p → (n : ℕ) → n < p.frames → RowFits (row p n)
+pub row_fits : (p : Packing) → Sound p → (n : ℕ) → n < p.frames → AllFit row_widths (row_values (row p n))
 row_fits p s n l =
     let w = well_packed p s in
     let c = w.checked n l in
@@ -85,7 +86,7 @@ module _ (m : Bank) (p : Packing) (s : Sound p) (o : List ℕ) (r : OrderStands 
     heard [] h = tt
     heard (k ∷ ks) h = let t = r.hears us n ls e k h.0.0 h.0.1 in ((t, sym (ap value_said t.said)), heard ks h.1)
 
-    times_fit : (ks ts : List ℕ) → AllZip (λ k t. (h : Heard m p o us n ls k) × (h.time ≡ t)) ks ts → AllFit (map (λ _. 8) ts) ts
+    times_fit : (ks ts : List ℕ) → AllZip (λ k t. (h : Heard m p o us n ls k) × (h.time ≡ t)) ks ts → AllFit (times_widths ts) ts
     times_fit [] [] h = tt
     times_fit [] (t ∷ ts) h = absurd h
     times_fit (k ∷ ks) [] h = absurd h
@@ -103,6 +104,8 @@ module _ (m : Bank) (p : Packing) (s : Sound p) (o : List ℕ) (r : OrderStands 
         let few = s.room in
         let place : length us < 96 = omega (arith, long, few, ap length e, length-append us (n ∷ ls)) in
         record {
+          identified = r.identified us n ls e;
+          recorded = ap (unless_refused (figures (row p n))) (cond-true _ _ _ (lt-ltb n p.frames there));
           times = ts;
           heard = h;
           is = ap (λ i. hex 3 i ++ row_text (row p n) ++ times_text ts ++ feed) (ap value_said (r.identified us n ls e));

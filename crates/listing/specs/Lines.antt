@@ -25,9 +25,15 @@ value_said (gives []) = 0
 value_said (gives (v ∷ vs)) = v
 value_said (refuses f) = 0
 
--- sender, payload, period, deadline and set
+-- the fields of a frame's row: sender, payload, period, deadline and set
+abbrev pub row_widths : List ℕ
+row_widths = 1 ∷ 2 ∷ 8 ∷ 8 ∷ 1 ∷ []
+
+abbrev pub row_values : Row → List ℕ
+row_values r = r.sender ∷ payload r.fill ∷ r.period ∷ r.deadline ∷ r.set ∷ []
+
 abbrev pub row_text : Row → List ℕ
-row_text r = fields (1 ∷ 2 ∷ 8 ∷ 8 ∷ 1 ∷ []) (r.sender ∷ payload r.fill ∷ r.period ∷ r.deadline ∷ r.set ∷ [])
+row_text r = fields row_widths (row_values r)
 
 -- the domains of a set, lowest first
 abbrev pub domains_of : ℕ → List ℕ
@@ -37,8 +43,11 @@ domains_of set = filter (λ k. in_set k set) four
 abbrev pub times_in : Bank → Packing → Stands → ℕ → ℕ → List ℕ
 times_in m p st n set = map (λ k. value_said (response_says m p st n k)) (domains_of set)
 
+abbrev pub times_widths : List ℕ → List ℕ
+times_widths ts = map (λ _. 8) ts
+
 abbrev pub times_text : List ℕ → List ℕ
-times_text ts = fields (map (λ _. 8) ts) ts
+times_text ts = fields (times_widths ts) ts
 
 -- the line of frame n in the order that stands
 unfoldable pub order_line : Bank → Packing → Stands → ℕ → List ℕ
