@@ -17,7 +17,7 @@ use Rattle.plan.specs.Stands.{Stands, in_conflict, among}
 use Rattle.plan.specs.Stands.Stands.{nothing, order, conflict}
 use Rattle.plan.specs.Subject.{Filtered, ConflictStands}
 use Rattle.plan.specs.Subject.Filtered.{seen, dropped, kept}
-use Rattle.plan.proofs.Readings.{rows_long}
+use Rattle.packing.proofs.Rowed.{rows_long}
 use Rattle.listing.specs.Lines.{conflict_line, listing, value_said}
 use Rattle.listing.proofs.Writing.{passed_more}
 use Rattle.listing.specs.Tells.{ConflictRight}
@@ -78,7 +78,7 @@ module _ (m : Bank) (p : Packing) where
       let ns = range_with_len 0 p.frames in
       let k = passing m p h.filtered in
       let q = k.0 in
-      let all : numbers 0 (rows p) ≡ ns = counted 0 (rows p) ∙ ap (range_with_len 0) (rows_long p) in
+      let all : numbers 0 (rows p) ≡ ns = counted 0 (rows p) ∙ ap (range_with_len 0) (rows_long p.signals p.frames) in
       let e : cs ≡ filter q ns = k.1 ∙ ap (filter q) all in
       let same = All-weaker (λ n. among n ns ≡ true) (λ n. among n cs ≡ q n) (λ n h. ap (among n) e ∙ among_filter q n ns ∙ cond-true _ _ _ h) ns (all_among ns) in
       same_filter q (λ n. among n cs) ns same ∙ sym e

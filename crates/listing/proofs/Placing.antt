@@ -14,7 +14,7 @@ use Rattle.plan.specs.Said.Said.{gives}
 use Rattle.plan.specs.Stands.{Stands, in_order}
 use Rattle.plan.specs.Stands.Stands.{nothing, order, conflict}
 use Rattle.plan.specs.Subject.{OrderStands}
-use Rattle.plan.proofs.Readings.{rows_long}
+use Rattle.packing.proofs.Rowed.{rows_long}
 use Rattle.listing.specs.Lines.{value_said}
 use Rattle.listing.specs.Tells.{OrderRight}
 
@@ -51,11 +51,11 @@ module _ (m : Bank) (p : Packing) where
 
   module _ (o : List ℕ) (r : OrderStands m p o) where
     pub order_long : length o ≡ p.frames
-    order_long = sym (perm_length r.once) ∙ length_numbers 0 (rows p) ∙ rows_long p
+    order_long = sym (perm_length r.once) ∙ length_numbers 0 (rows p) ∙ rows_long p.signals p.frames
 
     pub all_below : AllByRecursion (λ n. n < p.frames) o
     all_below =
-        all_perm (λ n. n < p.frames) (All-weaker (λ i. i < 0 + length (rows p)) (λ n. n < p.frames) (λ i l. omega (arith, rows_long p)) (numbers 0 (rows p)) (numbers_below 0 (rows p))) r.once
+        all_perm (λ n. n < p.frames) (All-weaker (λ i. i < 0 + length (rows p)) (λ n. n < p.frames) (λ i l. omega (arith, rows_long p.signals p.frames)) (numbers 0 (rows p)) (numbers_below 0 (rows p))) r.once
 
     pub each_below : (q : ℕ) → q < length o → get_or o q 0 < p.frames
     each_below q l = All-get_or (λ n. n < p.frames) o q 0 l all_below
@@ -69,7 +69,7 @@ module _ (m : Bank) (p : Packing) where
 
     place : (n : ℕ) → n < p.frames → (q : ℕ) × (q < length o) × (get_or o q 0 ≡ n)
     place n l =
-        let k = number_in 0 n (rows p) (omega (arith, rows_long p)) in
+        let k = number_in 0 n (rows p) (omega (arith, rows_long p.signals p.frames)) in
         let t = taken r.once k.1 in
         let s = pick_split t.1 in
         let e : 0 + n ≡ n = omega arith in

@@ -12,8 +12,7 @@ use Rattle.frames.proofs.Fitting.{payload_le}
 use Rattle.shelf.proofs.Perms.{all_pick, pick_middle}
 use Rattle.signals.specs.Limits.{LawfulSignal}
 use Rattle.packing.specs.Packings.{Packing, row}
-use Rattle.packing.proofs.Placing.{lawful_riders}
-use Rattle.packing.proofs.Sounds.{Sound}
+use Rattle.packing.proofs.Sounds.{Sound, lawful_riders}
 use Rattle.packing.proofs.Words.{well_packed}
 use Rattle.timing.specs.Carried.{in_set}
 use Rattle.timing.specs.Everywhere.{four}
@@ -73,7 +72,7 @@ row_fits p s n l =
     let c = w.checked n l in
     let g = w.gathered n l in
     let of : g.period.one.sender ≡ (row p n).sender = all_pick (λ s. s.sender ≡ (row p n).sender) g.sender g.period.among.1 in
-    let from = (all_pick LawfulSignal (lawful_riders p n s) g.period.among.1).from in
+    let from = (all_pick LawfulSignal (lawful_riders p p.signals s.signals n) g.period.among.1).from in
     (omega (arith, of, from), (omega (arith, payload_le (row p n).fill), (omega (arith, c.paced.1), (omega (arith, c.paced.1, c.timely.1), (omega (arith, c.carried.1), tt)))))
 
 module _ (m : Bank) (p : Packing) (s : Sound p) (o : List ℕ) (r : OrderStands m p o) where
