@@ -1,0 +1,11 @@
+// A sheet and its listing that several tests use.
+pub(crate) const SHEET: &[u8; 167] = b"C 000007D0 000001F4\n\
+    C 000007D0 000001F4\n\
+    G 00004E20 00000064\n\
+    R 0000C350\n\
+    S 0001 1 08 00989680 00989680 1\n\
+    S 0002 2 02 004C4B40 004C4B40 3\n\
+    S 0003 1 04 00989680 00989680 1\n";
+
+pub(crate) const LISTING: &[u8; 85] = b"008 2 02 004C4B40 004C4B40 3 00039210 00016760\n\
+    010 1 0C 00989680 00989680 1 00039210\n";
