@@ -1,8 +1,13 @@
 -- The choice is the first of the smallest growths. Assumes nothing.
-use Rattle.std.proofs.Common.{◌≡◌, ℕ, zero, suc, leb, Some, None, Option, refl, arith}
+use Rattle.std.proofs.Common.{◌≡◌, ℕ, zero, suc, ◌<◌, ◌≤◌, leb, ◌≢◌, Some, None, Option, refl, arith}
 use Rattle.std.proofs.lemmas.Bool.{leb-true, leb-false, cond_both}
 use Rattle.packing.specs.declared.choice.Choice.{Choice}
-use Rattle.packing.specs.Choices.{at_frame, lighter, lightest_below, Best}
+use Rattle.packing.specs.Choices.{at_frame, lighter, lightest_below}
+
+-- the first of the smallest growths below n, or there is none
+abbrev pub Best : (ℕ → Option ℕ) → ℕ → Option Choice → Type 0
+Best growth n None = (k g : ℕ) → k < n → growth k ≢ Some g
+Best growth n (Some c) = (c.frame < n) × (growth c.frame ≡ Some c.growth) × ((k g : ℕ) → k < n → growth k ≡ Some g → c.growth ≤ g) × ((k g : ℕ) → k < c.frame → growth k ≡ Some g → c.growth < g)
 
 module _ (growth : ℕ → Option ℕ) (n : ℕ) where
   -- one more

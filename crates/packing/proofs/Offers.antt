@@ -15,10 +15,10 @@ use Rattle.signals.proofs.Rowing.{row_push, in_left}
 use Rattle.weights.specs.Weights.{row_weight}
 use Rattle.weights.proofs.Weighing.{Fuller, fuller_heavier}
 use Rattle.packing.specs.declared.choice.Choice.{Choice}
-use Rattle.packing.specs.Choices.{may_join, row_with, growth_at, choice, Best}
+use Rattle.packing.specs.Choices.{may_join, row_with, growth_at, choice}
 use Rattle.packing.specs.Laws.{Placeable}
 use Rattle.packing.specs.Packings.{Packing, row}
-use Rattle.packing.proofs.Chosen.{best_is}
+use Rattle.packing.proofs.Chosen.{Best, best_is}
 use Rattle.packing.proofs.Placing.{fill_push}
 use Rattle.packing.proofs.Sounds.{Sound}
 

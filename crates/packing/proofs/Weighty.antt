@@ -7,10 +7,10 @@ use Rattle.signals.specs.declared.signal.Signal.{Signal}
 use Rattle.signals.specs.declared.signal.Entry.{Entry}
 use Rattle.weights.specs.Weights.{row_weight, rows_weight}
 use Rattle.packing.specs.declared.choice.Choice.{Choice}
-use Rattle.packing.specs.Choices.{growth_at, choice, row_with, Best}
+use Rattle.packing.specs.Choices.{growth_at, choice, row_with}
 use Rattle.packing.specs.Laws.{Placeable, Lightest}
 use Rattle.packing.specs.Packings.{Packing, row, rows, rows_of, placed, packing_weight}
-use Rattle.packing.proofs.Chosen.{best_is}
+use Rattle.packing.proofs.Chosen.{Best, best_is}
 use Rattle.packing.proofs.Offers.{heavier}
 use Rattle.packing.proofs.Placing.{lawful_with, room_at}
 use Rattle.packing.proofs.Rowed.{rows_long, row_at, rows_joined, rows_opened}

@@ -19,8 +19,7 @@ use Rattle.timing.specs.Laws.{Laws}
 use Rattle.timing.specs.Places.{row_at}
 use Rattle.timing.specs.Ranked.{response_at}
 use Rattle.timing.proofs.Ranking.{response_between}
-use Rattle.ordering.specs.Orders.{Judged}
-use Rattle.ordering.proofs.Claims.{order_right, conflict_is, judged_some}
+use Rattle.ordering.proofs.Claims.{Judged, order_right, conflict_is, judged_some}
 use Rattle.plan.specs.Banks.{Bank, in_time}
 use Rattle.plan.specs.Closes.{picked_order, standing_after, ordered, identifier_at, identifier_says, heard, response_of}
 use Rattle.plan.specs.Questions.{first_no, response_questions}
