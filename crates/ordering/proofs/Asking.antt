@@ -8,13 +8,13 @@ use Rattle.domains.specs.Asked.{no_row}
 use Rattle.frames.specs.declared.row.Row.{Row}
 use Rattle.domains.specs.declared.place.Place.TheVariants.{Above}
 use Rattle.shelf.proofs.Numbering.{chosen_apart, length_numbers}
-use Rattle.ordering.specs.Orders.{HasOrder, Judged, conflict_of}
+use Rattle.ordering.specs.Orders.{HasOrder, conflict_of}
 use Rattle.ordering.specs.Answers.{Arranged, Placed, Refused}
 use Rattle.shelf.proofs.Perms.{perm_length}
 use Rattle.ordering.specs.declared.orders.Placement.{Placement}
 use Rattle.ordering.specs.declared.conflicts.Conflict.{Conflict}
 use Rattle.ordering.proofs.Greedy.{examinations_most}
-use Rattle.ordering.proofs.Claims.{order_right, conflict_is}
+use Rattle.ordering.proofs.Claims.{Judged, order_right, conflict_is}
 use Rattle.ordering.proofs.Dropping.{all_above, none_below}
 
 module _ (rows : List Row) (few : length rows ≤ 96) where

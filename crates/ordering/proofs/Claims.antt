@@ -5,12 +5,17 @@ use Rattle.timing.specs.Laws.{Laws}
 use Rattle.shelf.specs.Numbers.{numbers}
 use Rattle.timing.specs.Places.{by_number}
 use Rattle.shelf.proofs.Numbering.{chosen_apart, length_numbers, map_numbers}
-use Rattle.ordering.specs.Orders.{Meets, HasOrder, at_row, order_of, conflict_of, Judged, IsConflict}
+use Rattle.ordering.specs.Orders.{Meets, HasOrder, at_row, order_of, conflict_of, IsConflict}
 use Rattle.shelf.proofs.Perms.{perm_map, perm_trans, reversed}
 use Rattle.ordering.proofs.Audsley.{Ordered, has_order, from_order, meets_fits}
 use Rattle.ordering.proofs.Greedy.{Right, greedy_right}
 use Rattle.ordering.proofs.Deletion.{conflict_right, shrink_part}
 use Rattle.ordering.proofs.Records.{laws_by_number, ordered_to, ordered_back, fits_to, map_onto}
+
+-- an order has each frame number once and meets every deadline; where none is given there is none
+abbrev pub Judged : {F : Type 0} → (F → List F → List F → Bool) → List F → F → Option (List ℕ) → Type 0
+Judged t rows d None = HasOrder t rows → ⊥
+Judged t rows d (Some o) = Perm (numbers 0 rows) o × Meets t (map (at_row rows d) o)
 
 module _ {F : Type 0} {t : F → List F → List F → Bool} (laws : Laws t) (rows : List F) (d : F) where
   rows_are : map (at_row rows d) (numbers 0 rows) ≡ rows

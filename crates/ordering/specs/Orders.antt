@@ -57,11 +57,6 @@ examinations_of t rows d = examinations (by_number t (at_row rows d)) (length ro
 abbrev pub conflict_of : {F : Type 0} → (F → List F → List F → Bool) → List F → F → List ℕ
 conflict_of t rows d = conflict (by_number t (at_row rows d)) (numbers 0 rows)
 
--- an order has each frame number once and meets every deadline; where none is given there is none
-abbrev pub Judged : {F : Type 0} → (F → List F → List F → Bool) → List F → F → Option (List ℕ) → Type 0
-Judged t rows d None = HasOrder t rows → ⊥
-Judged t rows d (Some o) = Perm (numbers 0 rows) o × Meets t (map (at_row rows d) o)
-
 -- some of the rows, that have no order, and that have one when any single one is left out
 pub record IsConflict {F : Type 0} (t : F → List F → List F → Bool) (rows : List F) (d : F) (cs : List ℕ) : Type 0 where
   pub within : Part (numbers 0 rows) cs

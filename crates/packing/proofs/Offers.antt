@@ -1,5 +1,5 @@
 -- What the look at one frame finds, and that the choice may take the signal. Assumes nothing.
-use Rattle.std.proofs.Common.{◌≡◌, ℕ, suc, ◌+◌, ◌-◌, ◌<◌, ◌≤◌, true, false, List, [], ◌∷◌, ◌++◌, length, Some, None, ap, ◌∙◌, subst, arith}
+use Rattle.std.proofs.Common.{◌≡◌, ℕ, ◌+◌, ◌-◌, ◌<◌, ◌≤◌, true, false, List, [], ◌∷◌, ◌++◌, length, Some, None, ap, ◌∙◌, arith}
 use Rattle.std.proofs.lemmas.Bool.Decides.{nat_tests}
 use native.Mathlib.Nat.{min-le_left}
 use Rattle.std.specs.List.{AllByRecursion}
@@ -15,10 +15,10 @@ use Rattle.signals.proofs.Rowing.{row_push, in_left}
 use Rattle.weights.specs.Weights.{row_weight}
 use Rattle.weights.proofs.Weighing.{Fuller, fuller_heavier}
 use Rattle.packing.specs.declared.choice.Choice.{Choice}
-use Rattle.packing.specs.Choices.{may_join, row_with, growth_at, choice, Best}
+use Rattle.packing.specs.Choices.{may_join, row_with, growth_at, choice}
 use Rattle.packing.specs.Laws.{Placeable}
 use Rattle.packing.specs.Packings.{Packing, row}
-use Rattle.packing.proofs.Chosen.{best_is}
+use Rattle.packing.proofs.Chosen.{choice_best}
 use Rattle.packing.proofs.Placing.{fill_push}
 use Rattle.packing.proofs.Sounds.{Sound}
 
@@ -65,9 +65,9 @@ module _ (cost : ℕ → ℕ → ℕ) (p : Packing) (s : Signal) (n : ℕ) where
 
 -- the choice may take the signal
 pub choice_placeable : (cost : ℕ → ℕ → ℕ) (p : Packing) (s : Signal) (c : Choice) → Sound p → LawfulSignal s → length p.signals < 256 → AllByRecursion (λ y. y ≡ s.name → ⊥) (names p.signals) → choice cost p s ≡ Some c → Placeable p s c.frame
-unfolding choice growth_at
+unfolding growth_at
 choice_placeable cost p s c h l few free e =
-    let o = subst (Best (growth_at cost p s) (suc p.frames)) e (best_is (growth_at cost p s) (suc p.frames)) in
+    let o = choice_best cost p s (Some c) e in
     let n = c.frame in
     record {
       lawful = l;

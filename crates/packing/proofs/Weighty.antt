@@ -1,5 +1,5 @@
 -- By how much a packing weighs more with one signal more. Assumes nothing.
-use Rattle.std.proofs.Common.{◌≡◌, ℕ, suc, ◌+◌, ◌-◌, ◌<◌, ◌≤◌, max, List, [], ◌∷◌, ◌++◌, length, Some, sum_by, sym, refl, ap, ◌∙◌, subst, ⊎_elim, arith}
+use Rattle.std.proofs.Common.{◌≡◌, ℕ, suc, ◌+◌, ◌-◌, ◌<◌, ◌≤◌, max, List, [], ◌∷◌, ◌++◌, length, Some, None, sum_by, sym, refl, ap, ◌∙◌, ⊎_elim, arith}
 use Rattle.std.proofs.lemmas.List.Sums.{sum_by-set, sum_by_push}
 use Rattle.std.proofs.lemmas.Bool.{cases_lt, cond-true, cond-false, lt-ltb, le-ltb}
 use Rattle.domains.specs.Asked.{no_row}
@@ -7,10 +7,10 @@ use Rattle.signals.specs.declared.signal.Signal.{Signal}
 use Rattle.signals.specs.declared.signal.Entry.{Entry}
 use Rattle.weights.specs.Weights.{row_weight, rows_weight}
 use Rattle.packing.specs.declared.choice.Choice.{Choice}
-use Rattle.packing.specs.Choices.{growth_at, choice, row_with, Best}
+use Rattle.packing.specs.Choices.{growth_at, choice, row_with}
 use Rattle.packing.specs.Laws.{Placeable, Lightest}
 use Rattle.packing.specs.Packings.{Packing, row, rows, rows_of, placed, packing_weight}
-use Rattle.packing.proofs.Chosen.{best_is}
+use Rattle.packing.proofs.Chosen.{choice_best}
 use Rattle.packing.proofs.Offers.{heavier}
 use Rattle.packing.proofs.Placing.{lawful_with, room_at}
 use Rattle.packing.proofs.Rowed.{rows_long, row_at, rows_joined, rows_opened}
@@ -53,10 +53,15 @@ module _ (cost : ℕ → ℕ → ℕ) (up : (k p q : ℕ) → p ≤ q → q ≤ 
         (λ l. (row_weight cost (row_with p n s), cond-false _ _ _ (le-ltb _ _ l) ∙ cond-true _ _ _ (lt-ltb _ _ may.room), new_weight l))
         (cases_lt n p.frames)
 
+  -- where there is no choice, no frame may take the signal
+  pub none_may : choice cost p s ≡ None → (n : ℕ) → Placeable p s n → ⊥
+  none_may e n may =
+      let o = grown n may in
+      choice_best cost p s None e n o.0 (omega (arith, may.near)) o.1
+
   pub lightest : (c : Choice) → choice cost p s ≡ Some c → Placeable p s c.frame → Lightest cost p s (placed p s c.frame)
-  unfolding choice
   lightest c e may =
-      let best = subst (Best (growth_at cost p s) (suc p.frames)) e (best_is (growth_at cost p s) (suc p.frames)) in
+      let best = choice_best cost p s (Some c) e in
       let o = grown c.frame may in
       let g : c.growth ≡ o.0 = same_Some _ _ (sym best.1 ∙ o.1) in
       record {

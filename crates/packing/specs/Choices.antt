@@ -1,5 +1,5 @@
 -- Where a signal may go, and where the weight grows least. Assumes nothing.
-use Rattle.std.specs.Prelude.{◌≡◌, ℕ, zero, suc, ◌+◌, ◌-◌, ◌<◌, ◌≤◌, Bool, cond, ◌&&◌, [], ◌∷◌, ◌++◌, Some, None, Option, ◌==◌, ◌≢◌, nat_le, nat_lt}
+use Rattle.std.specs.Prelude.{ℕ, zero, suc, ◌+◌, ◌-◌, Bool, cond, ◌&&◌, [], ◌∷◌, ◌++◌, Some, None, Option, ◌==◌, nat_le, nat_lt}
 use Rattle.frames.specs.declared.row.Row.{Row}
 use Rattle.signals.specs.declared.signal.Signal.{Signal}
 use Rattle.signals.specs.Riders.{riders}
@@ -39,8 +39,3 @@ lightest_below growth (suc n) = lighter (lightest_below growth n) (at_frame n (g
 -- the old frames in list order, and then a new one
 unfoldable pub choice : (ℕ → ℕ → ℕ) → Packing → Signal → Option Choice
 choice cost p s = lightest_below (growth_at cost p s) (suc p.frames)
-
--- in words: o is the first of the smallest growths below n, or there is none
-abbrev pub Best : (ℕ → Option ℕ) → ℕ → Option Choice → Type 0
-Best growth n None = (k g : ℕ) → k < n → growth k ≢ Some g
-Best growth n (Some c) = (c.frame < n) × (growth c.frame ≡ Some c.growth) × ((k g : ℕ) → k < n → growth k ≡ Some g → c.growth ≤ g) × ((k g : ℕ) → k < c.frame → growth k ≡ Some g → c.growth < g)

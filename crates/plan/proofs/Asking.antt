@@ -9,13 +9,17 @@ use Rattle.signals.specs.Names.{place_of}
 use Rattle.signals.proofs.Finding.{not_found, found_within}
 use Rattle.packing.specs.declared.choice.Choice.{Choice}
 use Rattle.packing.specs.Choices.{choice}
+use Rattle.packing.specs.Laws.{Placeable}
 use Rattle.packing.specs.Packings.{Packing, placed, withdrawn, found_out}
 use Rattle.packing.proofs.Offers.{choice_placeable}
 use Rattle.packing.proofs.Sounds.{Sound}
+use Rattle.packing.proofs.Weighty.{none_may}
 use Rattle.plan.specs.declared.fault.PlanFault.{PlanFault}
 use Rattle.plan.specs.declared.fault.PlanFault.TheVariants.{NameTaken, SignalsFull, FramesFull, NameUnknown}
-use Rattle.plan.specs.Drafts.{chosen, unless, entered}
+use Rattle.plan.specs.Drafts.{chosen, unless, entered, enter_says}
+use Rattle.plan.specs.Faults.{plan_told}
 use Rattle.plan.specs.Questions.{Questions, first_no, figure_questions, place_questions, enter_questions, name_questions, Asked}
+use Rattle.plan.specs.Said.Said.{refuses}
 
 -- where a name stands among the signals, or the fault that it is unknown
 pub looked_up : (name : ℕ) (ss es : List Entry) (o : Option ℕ) → es ≡ ss → o ≡ place_of name 0 es → MatchResult (ok_or o NameUnknown) (λ i. (place_of name 0 ss ≡ Some i) × (i < length ss)) (λ e. (e ≡ NameUnknown) × (place_of name 0 ss ≡ None))
@@ -87,6 +91,16 @@ module _ (domains : ℕ) (cost : ℕ → ℕ → ℕ) (p : Packing) (s : Signal)
   pub enter_done : (c : Choice) → first_no (enter_questions domains cost p s) ≡ None → choice cost p s ≡ Some c → entered domains cost p s ≡ placed p s c.frame
   unfolding entered
   enter_done c e f = ap₂ (λ o d. unless o (chosen p s d) p) e f
+
+  -- no frame is missing where there is a choice
+  no_choice : (o : Option Choice) → choice cost p s ≡ o → enter_says domains cost p s ≡ refuses (plan_told FramesFull) → choice cost p s ≡ None
+  unfolding enter_questions
+  no_choice None e r = e
+  no_choice (Some c) e r = grind (arith, e, r)
+
+  -- no frame may take a signal that is refused for want of one
+  pub frames_full : ((k a b : ℕ) → a ≤ b → b ≤ 64 → cost k a ≤ cost k b) → Sound p → enter_says domains cost p s ≡ refuses (plan_told FramesFull) → (n : ℕ) → Placeable p s n → ⊥
+  frames_full up h r = none_may cost up p s h (no_choice (choice cost p s) refl r)
 
 -- what withdraw asks and does
 module _ (p : Packing) (name : ℕ) where

@@ -16,13 +16,14 @@ use Rattle.shelf.proofs.Perms.{pick_middle, perm_length, all_pick, all_perm, apa
 use Rattle.packing.specs.Packings.{Packing, row, rows}
 use Rattle.timing.specs.Everywhere.{response_in}
 use Rattle.timing.specs.Laws.{Laws}
-use Rattle.timing.specs.Places.{row_at}
+use Rattle.timing.specs.Places.{by_number, row_at}
 use Rattle.timing.specs.Ranked.{response_at}
 use Rattle.timing.proofs.Ranking.{response_between}
-use Rattle.ordering.specs.Orders.{Judged}
-use Rattle.ordering.proofs.Claims.{order_right, conflict_is, judged_some}
+use Rattle.ordering.specs.Orders.{examinations_of}
+use Rattle.ordering.proofs.Claims.{Judged, order_right, conflict_is, judged_some}
+use Rattle.ordering.proofs.Greedy.{examinations_most}
 use Rattle.plan.specs.Banks.{Bank, in_time}
-use Rattle.plan.specs.Closes.{picked_order, standing_after, ordered, identifier_at, identifier_says, heard, response_of}
+use Rattle.plan.specs.Closes.{picked_order, standing_after, order_answers, ordered, identifier_at, identifier_says, heard, response_of}
 use Rattle.plan.specs.Questions.{first_no, response_questions}
 use Rattle.plan.specs.Said.{unless_refused}
 use Rattle.plan.specs.Said.Said.{gives}
@@ -109,8 +110,13 @@ module _ (m : Bank) (laws : Laws (in_time m)) (p : Packing) where
   upheld_by few (Some o) e =
       let j = judged (Some o) e in
       let meets = to_meets m (rows_at p o) j.1 in
+      let apart = chosen_apart (λ _. true) 0 (rows p) in
+      let all = length_numbers 0 (rows p) in
       record {
-        picked = greedy_picked m p (length (rows p)) (numbers 0 (rows p)) [] o (chosen_apart (λ _. true) 0 (rows p)) (length_numbers 0 (rows p)) e;
+        examinations = examinations_of (in_time m) (rows p) no_row;
+        picked = greedy_picked m p (length (rows p)) (numbers 0 (rows p)) [] o apart all e;
+        counted = ap (order_answers m p) e;
+        few = examinations_most (by_number (in_time m) (row_at (rows p))) (length (rows p)) (numbers 0 (rows p)) apart all;
         once = j.0;
         meets = meets;
         identified = λ us n ls q. identified_is p few o j.0 us n ls q;

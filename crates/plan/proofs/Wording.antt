@@ -1,5 +1,5 @@
 -- Orders and conflicts by the test, and in the words of the subject. Assumes nothing.
-use Rattle.std.proofs.Common.{◌≡◌, ℕ, zero, suc, ◌<◌, Bool, true, false, cond, not, ◌||◌, eqb, List, [], ◌∷◌, ◌++◌, length, Some, None, Option, sym, refl, ap, ◌∙◌, subst, subst₂, arith}
+use Rattle.std.proofs.Common.{◌≡◌, ℕ, zero, suc, ◌+◌, ◌<◌, Bool, true, false, cond, not, ◌||◌, eqb, List, [], ◌∷◌, ◌++◌, length, Some, None, Option, sym, refl, ap, ◌∙◌, subst, subst₂, arith}
 use Rattle.std.proofs.lemmas.Option.{none-some, same_Some}
 use Rattle.std.proofs.lemmas.List.{nil_from_length}
 use Rattle.std.specs.List.{AllByRecursion}
@@ -17,7 +17,7 @@ use Rattle.timing.specs.Everywhere.{response_in, in_domain, everywhere}
 use Rattle.timing.specs.Laws.{Laws}
 use Rattle.timing.specs.Places.{by_number, row_at}
 use Rattle.ordering.specs.Orders as O
-use Rattle.ordering.specs.Orders.{Meets, found, at_place, greedy, orderable, shrink}
+use Rattle.ordering.specs.Orders.{Meets, found, examined, at_place, greedy, examinations, orderable, shrink}
 use Rattle.ordering.proofs.Audsley as A
 use Rattle.ordering.proofs.Audsley.{has_order}
 use Rattle.ordering.proofs.Deletion.{orderable_true, orderable_false}
@@ -80,18 +80,18 @@ module _ (m : Bank) where
   from_in_time p x us ls h =
       all_four (row_at (rows p) x) (rows_at p us) (rows_at p ls) (λ k l. to_one k (row_at (rows p) x) (rows_at p us) (rows_at p ls) (h k l))
 
-  -- the first that passes
-  found_first : (q : ℕ → Bool) (us : List ℕ) (x : ℕ) → found q us ≡ Some x → (earlier : List ℕ) × (later : List ℕ) × (us ≡ earlier ++ (x ∷ later)) × AllByRecursion (λ g. q g ≡ false) earlier × (q x ≡ true)
+  -- the first that passes, and the examinations up to it
+  found_first : (q : ℕ → Bool) (us : List ℕ) (x : ℕ) → found q us ≡ Some x → (earlier : List ℕ) × (later : List ℕ) × (us ≡ earlier ++ (x ∷ later)) × AllByRecursion (λ g. q g ≡ false) earlier × (q x ≡ true) × (examined q us ≡ length earlier + 1)
   found_first q [] x e = absurd (none-some x e)
   found_first q (u ∷ us) x e = go (q u) refl e (found_first q us x)
     where
-      go : (b : Bool) → q u ≡ b → cond b (Some u) (found q us) ≡ Some x → (found q us ≡ Some x → (earlier : List ℕ) × (later : List ℕ) × (us ≡ earlier ++ (x ∷ later)) × AllByRecursion (λ g. q g ≡ false) earlier × (q x ≡ true))
-          → (earlier : List ℕ) × (later : List ℕ) × (◌≡◌ {A = List ℕ} (u ∷ us) (earlier ++ (x ∷ later))) × AllByRecursion (λ g. q g ≡ false) earlier × (q x ≡ true)
-      go true t h ih = let z : u ≡ x = cc in ([], us, ap (λ w. w ∷ us) z, tt, subst (λ w. q w ≡ true) z t)
-      go false t h ih = let r = ih h in (u ∷ r.0, r.1, ap (λ l. u ∷ l) r.2, (t, r.3), r.4)
+      go : (b : Bool) → q u ≡ b → cond b (Some u) (found q us) ≡ Some x → (found q us ≡ Some x → (earlier : List ℕ) × (later : List ℕ) × (us ≡ earlier ++ (x ∷ later)) × AllByRecursion (λ g. q g ≡ false) earlier × (q x ≡ true) × (examined q us ≡ length earlier + 1))
+          → (earlier : List ℕ) × (later : List ℕ) × (◌≡◌ {A = List ℕ} (u ∷ us) (earlier ++ (x ∷ later))) × AllByRecursion (λ g. q g ≡ false) earlier × (q x ≡ true) × (cond b 1 (1 + examined q us) ≡ length earlier + 1)
+      go true t h ih = let z : u ≡ x = cc in ([], us, ap (λ w. w ∷ us) z, tt, subst (λ w. q w ≡ true) z t, refl)
+      go false t h ih = let r = ih h in (u ∷ r.0, r.1, ap (λ l. u ∷ l) r.2, (t, r.3), r.4, omega (arith, r.5))
 
-  pub greedy_picked : (p : Packing) (n : ℕ) (us bs o : List ℕ) → Apart us → length us ≡ n → greedy (by_number (in_time m) (row_at (rows p))) n us bs ≡ Some o → Picked m p us bs o
-  greedy_picked p zero us bs o a l e = subst₂ (λ x y. Picked m p x bs y) (sym (nil_from_length us l)) (same_Some _ _ e) full
+  pub greedy_picked : (p : Packing) (n : ℕ) (us bs o : List ℕ) → Apart us → length us ≡ n → greedy (by_number (in_time m) (row_at (rows p))) n us bs ≡ Some o → Picked m p us bs o (examinations (by_number (in_time m) (row_at (rows p))) n us bs)
+  greedy_picked p zero us bs o a l e = subst₂ (λ x y. Picked m p x bs y 0) (sym (nil_from_length us l)) (same_Some _ _ e) full
   greedy_picked p (suc n) us bs o a l e = go (found q us) refl e (λ x k. greedy_picked p n (without x us) (x ∷ bs) o (apart_kept (λ k. not (eqb k x)) us a) k)
     where
       t : ℕ → List ℕ → List ℕ → Bool
@@ -100,13 +100,15 @@ module _ (m : Bank) where
       q : ℕ → Bool
       q = at_place t us bs
 
-      go : (f : Option ℕ) → found q us ≡ f → elim f [ None ↦ None | Some x ↦ greedy t n (without x us) (x ∷ bs) ] ≡ Some o → ((x : ℕ) → length (without x us) ≡ n → greedy t n (without x us) (x ∷ bs) ≡ Some o → Picked m p (without x us) (x ∷ bs) o) → Picked m p us bs o
+      go : (f : Option ℕ) → found q us ≡ f → elim f [ None ↦ None | Some x ↦ greedy t n (without x us) (x ∷ bs) ] ≡ Some o → ((x : ℕ) → length (without x us) ≡ n → greedy t n (without x us) (x ∷ bs) ≡ Some o → Picked m p (without x us) (x ∷ bs) o (examinations t n (without x us) (x ∷ bs)))
+          → Picked m p us bs o (examined q us + elim f [ None ↦ 0 | Some x ↦ examinations t n (without x us) (x ∷ bs) ])
       go None h k ih = absurd (none-some o k)
       go (Some x) h k ih =
           let r = found_first q us x h in
           let s = found_some q us x h in
           let shorter : length (without x us) ≡ n = omega (arith, ap length (pick_is s.1 a), pick_length s.1) in
-          next x r.0 r.1 r.2 (All-weaker (λ g. q g ≡ false) (λ g. TimelyFrame m p g (without g us) bs → ⊥) (λ g no yes. false≢true (sym no ∙ from_in_time p g (without g us) bs yes)) r.0 r.3) (to_in_time p x (without x us) bs r.4) (ih x shorter k)
+          let late = All-weaker (λ g. q g ≡ false) (λ g. TimelyFrame m p g (without g us) bs → ⊥) (λ g no yes. false≢true (sym no ∙ from_in_time p g (without g us) bs yes)) r.0 r.3 in
+          subst (λ k. Picked m p us bs o (k + examinations t n (without x us) (x ∷ bs))) (sym r.5) (next x r.0 r.1 r.2 late (to_in_time p x (without x us) bs r.4) (ih x shorter k))
 
   -- what the filter leaves
   pub shrink_filtered : Laws (in_time m) → (p : Packing) (xs cs : List ℕ) → Apart cs → Filtered m p xs cs (shrink (orderable (by_number (in_time m) (row_at (rows p)))) xs cs)

@@ -1,5 +1,5 @@
 -- Orders and conflicts in the words of the subject. Assumes nothing.
-use Rattle.std.specs.Prelude.{◌≡◌, ℕ, ◌<◌, ◌≤◌, true, List, [], ◌∷◌, ◌++◌, map, length, Some, Option}
+use Rattle.std.specs.Prelude.{◌≡◌, ℕ, ◌+◌, ◌*◌, ◌/◌, ◌<◌, ◌≤◌, true, List, [], ◌∷◌, ◌++◌, map, length, Some, Option}
 use Rattle.std.specs.List.{AllByRecursion}
 use Rattle.frames.specs.declared.row.Row.{Row}
 use Rattle.timing.specs.Carried.{carried}
@@ -9,7 +9,7 @@ use Rattle.packing.specs.Packings.{Packing, row, rows}
 use Rattle.timing.specs.Everywhere.{response_in}
 use Rattle.timing.specs.Places.{row_at}
 use Rattle.plan.specs.Banks.{Bank}
-use Rattle.plan.specs.Closes.{identifier_at, identifier_says, response_says}
+use Rattle.plan.specs.Closes.{order_says, identifier_at, identifier_says, response_says}
 use Rattle.plan.specs.Said.Said.{gives}
 use Rattle.plan.specs.Stands.{Stands}
 use Rattle.plan.specs.Stands.Stands.{nothing, order, conflict}
@@ -40,12 +40,13 @@ abbrev pub TimelyFrame : Bank → Packing → ℕ → List ℕ → List ℕ → 
 TimelyFrame m p x us ls = (k : ℕ) → k < 4 → carried k (row_at (rows p) x) ≡ true → InTime (response_in m.response k (row_at (rows p) x) (rows_at p us) (rows_at p ls)) (row_at (rows p) x).deadline
 
 -- places from the last to the first: us have none, bs have the last ones. The frames without one are examined in list order,
--- with the others without a place above and those placed below, and the first that is in time gets the place
-pub data Picked (m : Bank) (p : Packing) : List ℕ → List ℕ → List ℕ → Type 0 where
-  full : {bs : List ℕ} → Picked m p [] bs bs
-  next : {us bs o : List ℕ} (x : ℕ) (earlier later : List ℕ) → us ≡ earlier ++ (x ∷ later)
+-- with the others without a place above and those placed below, and the first that is in time gets the place. The number
+-- at the end counts the examinations: for each place those of the earlier frames, which are late there, and its own
+pub data Picked (m : Bank) (p : Packing) : List ℕ → List ℕ → List ℕ → ℕ → Type 0 where
+  full : {bs : List ℕ} → Picked m p [] bs bs 0
+  next : {us bs o : List ℕ} {rest : ℕ} (x : ℕ) (earlier later : List ℕ) → us ≡ earlier ++ (x ∷ later)
       → AllByRecursion (λ g. TimelyFrame m p g (without g us) bs → ⊥) earlier → TimelyFrame m p x (without x us) bs
-      → Picked m p (without x us) (x ∷ bs) o → Picked m p us bs o
+      → Picked m p (without x us) (x ∷ bs) o rest → Picked m p us bs o (length earlier + 1 + rest)
 
 -- what a planner hears of frame n in domain k: the response time of the order, within the frame's deadline
 pub record Heard (m : Bank) (p : Packing) (o us : List ℕ) (n : ℕ) (ls : List ℕ) (k : ℕ) : Type 0 where
@@ -54,9 +55,13 @@ pub record Heard (m : Bank) (p : Packing) (o us : List ℕ) (n : ℕ) (ls : List
   pub said : response_says m p (order o) n k ≡ gives (time ∷ [])
   pub kept : time ≤ (row p n).deadline
 
--- an order that stands is the one picked; it has each frame once, meets every deadline, and is what the readings tell
+-- an order that stands is the one picked, with the examinations that order answers; it has each frame once, meets every
+-- deadline, and is what the readings tell
 pub record OrderStands (m : Bank) (p : Packing) (o : List ℕ) : Type 0 where
-  pub picked : Picked m p (numbers 0 (rows p)) [] o
+  pub examinations : ℕ
+  pub picked : Picked m p (numbers 0 (rows p)) [] o examinations
+  pub counted : order_says m p ≡ gives (length (rows p) ∷ examinations ∷ [])
+  pub few : examinations ≤ length (rows p) * (length (rows p) + 1) / 2
   pub once : Perm (numbers 0 (rows p)) o
   pub meets : MeetsAll m (rows_at p o)
   pub identified : (us : List ℕ) (n : ℕ) (ls : List ℕ) → o ≡ us ++ (n ∷ ls) → identifier_says p (order o) n ≡ gives (identifier_at (length us) ∷ [])

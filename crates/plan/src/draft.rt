@@ -1,11 +1,14 @@
 // A plan that signals are entered into and withdrawn from.
-ghost use Rattle.std.specs.Prelude.{◌≡◌, [], length, OnOk};
+ghost use Rattle.std.specs.Prelude.{◌≡◌, ℕ, [], length, OnOk};
 ghost use Rattle.packing.specs.Holds.{held};
-ghost use Rattle.packing.specs.Laws.{WellPacked, Lightest};
+ghost use Rattle.packing.specs.Laws.{WellPacked, Placeable, Lightest};
 ghost use Rattle.packing.specs.Packings.{packed, packing_weight, withdrawn};
+ghost use Rattle.plan.specs.declared.fault.PlanFault.TheVariants.{FramesFull};
 ghost use Rattle.plan.specs.Drafts.{entered, enter_says, withdraw_says};
+ghost use Rattle.plan.specs.Faults.{plan_told};
 ghost use Rattle.plan.specs.Holds.{stands_of};
 ghost use Rattle.plan.specs.Said.{told, done};
+ghost use Rattle.plan.specs.Said.Said.{refuses};
 ghost use Rattle.plan.specs.Stands.Stands.{nothing};
 
 use crate::closed::{Closed, Standing};
@@ -42,6 +45,7 @@ impl<B: Domain> Draft<B> {
         ensures bank { self.new.bank ≡ self.old.bank }
         ensures packed { WellPacked (held self.new.tables) }
         ensures lightest { OnOk result (Lightest (B.cost self.old.bank) (held self.old.tables) signal (held self.new.tables)) }
+        ensures full { told done result ≡ refuses (plan_told FramesFull) → (n : ℕ) → Placeable (held self.old.tables) signal n → ⊥ }
         ensures undone { OnOk result (withdrawn (held self.new.tables) signal.name ≡ held self.old.tables) }
     {
         let choice = ask(&self.bank, &self.tables, &signal)?;

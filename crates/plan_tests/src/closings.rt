@@ -1,6 +1,7 @@
 // From signals to identifiers and responses, to a conflict, and what the readings refuse.
 use crate::samples::{bank, signal};
 use bus::bus::Bus;
+use gateway::gateway::Gateway;
 use plan::closed::order::Counted;
 use plan::draft::Draft;
 use plan::fault::PlanFault;
@@ -25,6 +26,28 @@ fn identifiers_and_responses(rt: HostRuntime) -> Result<(), Fail> {
     assert_eq!(rt; closed.response(1, 0), Ok(234_000));
     assert_eq!(rt; closed.response(1, 1), Ok(92_000));
     assert_eq!(rt; closed.response(0, 0), Ok(234_000));
+    Ok(())
+}
+
+// In a gateway only the frames above matter. The first in list order has to be above, so the last place takes two
+// examinations.
+#[test]
+fn more_examinations_than_frames(rt: HostRuntime) -> Result<(), Fail> {
+    let mut draft = Draft::new(Gateway::new(20_000, 100)?);
+    draft.enter(Signal {
+        deadline: 30_000,
+        ..signal(1, 1, 8, 10_000_000, 1)
+    })?;
+    draft.enter(signal(2, 2, 8, 10_000_000, 1))?;
+    let mut closed = draft.close();
+    let counted = Counted {
+        frames: 2,
+        examinations: 3,
+    };
+    assert_eq!(rt; closed.order(), Ok(counted));
+    assert_eq!(rt; closed.identifier(0), Ok(8));
+    assert_eq!(rt; closed.response(0, 0), Ok(20_800));
+    assert_eq!(rt; closed.response(1, 0), Ok(41_600));
     Ok(())
 }
 

@@ -1,4 +1,5 @@
 // What enter and withdraw refuse, at both sides of each limit.
+use crate::samples::bank;
 use gateway::gateway::Gateway;
 use plan::draft::Draft;
 use plan::fault::PlanFault;
@@ -76,6 +77,21 @@ fn questions_in_order(rt: HostRuntime) -> Result<(), Fail> {
         6,
         "outside a bank of one domain"
     );
+    Ok(())
+}
+
+// Each set that a frame can have is within a bank of four domains.
+#[test]
+fn sets_of_four_domains(rt: HostRuntime) -> Result<(), Fail> {
+    let mut draft = Draft::new(bank()?);
+    draft.enter(Signal { set: 15, ..FAIR })?;
+    let one_more = Signal {
+        name: 8,
+        set: 16,
+        ..FAIR
+    };
+    assert_eq!(rt; draft.enter(one_more), Err(PlanFault::Set));
+    assert_eq!(rt; draft.signal_count(), 1);
     Ok(())
 }
 

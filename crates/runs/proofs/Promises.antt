@@ -20,18 +20,18 @@ use Rattle.packing.proofs.Weighty.{lightest}
 use Rattle.packing.proofs.Words.{well_packed}
 use Rattle.timing.specs.Laws.{Laws}
 use Rattle.plan.specs.declared.fault.PlanFault.{PlanFault}
-use Rattle.plan.specs.declared.fault.PlanFault.TheVariants.{NoOrder}
+use Rattle.plan.specs.declared.fault.PlanFault.TheVariants.{FramesFull, NoOrder}
 use Rattle.plan.specs.Banks.{Bank, in_time}
 use Rattle.plan.specs.Closes.{picked_order, left_conflict, order_answers}
 use Rattle.plan.specs.Drafts.{chosen, unless, entered, enter_says, withdraw_says}
 use Rattle.plan.specs.Faults.{plan_told}
 use Rattle.plan.specs.Questions.{Questions, first_no, enter_questions}
-use Rattle.plan.specs.Said.{unless_refused}
+use Rattle.plan.specs.Said.{Said, unless_refused}
 use Rattle.plan.specs.Said.Said.{gives, refuses}
 use Rattle.plan.specs.Stands.{Stands}
 use Rattle.plan.specs.Stands.Stands.{nothing}
 use Rattle.plan.specs.Subject.{Iff, HasOrder, Upheld}
-use Rattle.plan.proofs.Asking.{known, unknown, withdrawn_by}
+use Rattle.plan.proofs.Asking.{frames_full, known, unknown, withdrawn_by}
 use Rattle.plan.proofs.Upholding.{has_order, no_order, ordered_upheld}
 use Rattle.runs.specs.declared.call.Call.{Call}
 use Rattle.runs.specs.declared.call.Call.TheVariants.{Enter, Withdraw, Close, Reopen, Order, FrameOf, Record, Identifier, Response, Member, SignalCount, FrameCount, Weight}
@@ -39,7 +39,7 @@ use Rattle.runs.specs.Books.{Book, new, on, step, run, replies}
 use Rattle.runs.specs.Lives.{after_call, lives}
 use Rattle.runs.specs.Promise.{Refuses, Moment, Promise}
 use Rattle.runs.specs.Replies.{Reply, of_change, of_order}
-use Rattle.runs.specs.Replies.Reply.{not_allowed}
+use Rattle.runs.specs.Replies.Reply.{says, not_allowed}
 use Rattle.runs.proofs.Living.{signals_of, others, taken_others, placed_signals}
 use Rattle.runs.proofs.Riding as R
 
@@ -48,6 +48,11 @@ pub record Good (m : Bank) (p : Packing) (s : Stands) (ss : List Signal) : Type 
   pub sound : Sound p
   pub same : signals_of p.signals ≡ ss
   pub upheld : Upheld m p s
+
+-- what a call said, where its state has it
+abbrev said_of : Reply → Said
+said_of (says k s) = s
+said_of not_allowed = gives []
 
 -- where no question is answered with no, each is answered with yes
 abbrev AllYes : Questions → Type 0
@@ -111,6 +116,10 @@ module _ (m : Bank) (laws : Laws (in_time m)) (at_most : m.domains ≤ 4) (p : P
     unfolding entered
     entered_lightest st false q = unrefused_lightest (first_no (enter_questions m.domains m.cost p s)) refl q
     entered_lightest st true q = absurd (grind arith)
+
+    pub entered_full : (st : Stands) (b : Bool) → (on m p st b (Enter s)).reply ≡ of_change (refuses (plan_told FramesFull)) → (n : ℕ) → Placeable p s n → ⊥
+    entered_full st false q = frames_full m.domains m.cost p s up h (ap said_of q)
+    entered_full st true q = absurd (grind arith)
 
   withdraw_good : (name : ℕ) → Good m p nothing ss → (o : Option ℕ) → place_of name 0 p.signals ≡ o → Good m (withdrawn p name) nothing (after_call ss (Withdraw name) (of_change (withdraw_says p name)))
   withdraw_good name h None e =
@@ -212,6 +221,9 @@ module _ (m : Bank) (laws : Laws (in_time m)) (at_most : m.domains ≤ 4) where
     lightest = λ before after s q ok.
         let b = run m new before in
         subst (λ (c : Book). Lightest m.cost b.packing s c.packing) (sym (run_one new before (Enter s))) (entered_lightest m laws at_most b.packing [] up s (run_good new [] before new_good).sound b.stands b.closed (sym (replied calls before (Enter s) after said f q) ∙ ok));
+    full = λ before after s q no.
+        let b = run m new before in
+        entered_full m laws at_most b.packing [] up s (run_good new [] before new_good).sound b.stands b.closed (sym (replied calls before (Enter s) after said f q) ∙ no);
     refused = λ before after q shut.
         let b = run m new before in
         subst (λ (r : Reply). Iff (Refuses 11 r) (HasOrder m (rows b.packing) → ⊥)) (sym (replied calls before Order after said f q)) (refused m laws at_most b.packing [] b.stands b.closed shut);

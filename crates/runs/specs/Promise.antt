@@ -3,9 +3,11 @@ use Rattle.std.specs.Prelude.{◌≡◌, ℕ, ◌<◌, ◌≤◌, true, List, []
 use Rattle.domains.specs.Faults.{Refusal}
 use Rattle.signals.specs.declared.signal.Signal.{Signal}
 use Rattle.shelf.specs.Picks.{Among}
-use Rattle.packing.specs.Laws.{Carries, Lightest, WellPacked}
+use Rattle.packing.specs.Laws.{Carries, Placeable, Lightest, WellPacked}
 use Rattle.packing.specs.Packings.{rows}
+use Rattle.plan.specs.declared.fault.PlanFault.TheVariants.{FramesFull}
 use Rattle.plan.specs.Banks.{Bank}
+use Rattle.plan.specs.Faults.{plan_told}
 use Rattle.plan.specs.Said.Said.{gives, refuses}
 use Rattle.plan.specs.Stands.Stands.{order}
 use Rattle.plan.specs.Subject.{Iff, HasOrder, Upheld}
@@ -42,6 +44,9 @@ pub record Promise (m : Bank) (calls : List Call) (plan : Book) (said : List Rep
   -- an enter that is not refused takes a frame where the plan's weight grows least, as the tie rules say
   pub lightest : (before after : List Call) (s : Signal) → calls ≡ before ++ (Enter s ∷ after) → slice_index_or said (length before) not_allowed ≡ of_change (gives [])
       → Lightest m.cost (run m new before).packing s (run m new (before ++ (Enter s ∷ []))).packing
+  -- where an enter is refused for want of a frame, with 9, no frame may take the signal
+  pub full : (before after : List Call) (s : Signal) → calls ≡ before ++ (Enter s ∷ after) → slice_index_or said (length before) not_allowed ≡ of_change (refuses (plan_told FramesFull))
+      → (n : ℕ) → Placeable (run m new before).packing s n → ⊥
   -- order refuses, with 11, exactly when no order of the closed plan's frames meets every deadline in every domain that
   -- carries them
   pub refused : (before after : List Call) → calls ≡ before ++ (Order ∷ after) → (run m new before).closed ≡ true

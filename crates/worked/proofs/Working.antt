@@ -21,7 +21,7 @@ use Rattle.bus.specs.Buses.{bus_price, blocking, busy_load, busy_period, queue_l
 use Rattle.bus.specs.Bussing.{busy_up, busy_starts, queue_up}
 use Rattle.bus.proofs.Instances.{worst_found, instance_past, instance_found}
 use Rattle.bus.specs.Wiring.{bus_kept}
-use Rattle.worked.specs.Figures.{frame, processor, through_processor, over_link, fast_bus, slow_bus, on_bus, last, before, last_busy, last_instance, due, LaterInstance}
+use Rattle.worked.specs.Figures.{frame, processor, through_processor, over_link, fast_bus, slow_bus, on_bus, last, before, last_busy, last_instance, due, WorkedFigures, LaterInstance}
 
 pub fills : (payload 8 ≡ 8) × (payload 9 ≡ 12) × (payload 17 ≡ 20) × (payload 49 ≡ 64)
 unfolding payload smallest first_of
@@ -156,3 +156,29 @@ lower = fast_answer due (due ∷ []) [] 244000 122000 244000 refl (refl, refl, o
 pub alone : on_bus fast_bus due [] [] ≡ Some 122000
 unfolding blocking demand ceil payload smallest first_of
 alone = fast_answer due [] [] 122000 0 122000 refl (refl, refl, omega arith, refl, refl, refl, omega arith, refl)
+
+-- ---- all of them
+pub figures : WorkedFigures
+figures = record {
+  fill_8 = fills.0;
+  fill_9 = fills.1;
+  fill_17 = fills.2;
+  fill_49 = fills.3;
+  cost_2 = refl;
+  cost_16 = refl;
+  cost_20 = refl;
+  cost_64 = refl;
+  weighs = weighs;
+  gateway = gateway;
+  radio = radio;
+  radio_late = radio_late;
+  cost_slow = refl;
+  busy = busy;
+  first_instance = first_instance;
+  second_instance = second_instance;
+  no_third = no_third;
+  answer = answer;
+  upper = upper;
+  lower = lower;
+  alone = alone;
+}

@@ -1,4 +1,4 @@
--- Orders and a plan worked by hand. Assumes nothing.
+-- Figures, orders and a plan worked by hand. Assumes nothing.
 use Rattle.std.specs.Prelude.{◌≡◌, ℕ, Bool, List, [], ◌∷◌, Some, None, Option}
 use Rattle.frames.specs.declared.row.Row.{Row}
 use Rattle.streams.specs.declared.stream.Stream.{Stream}
@@ -19,7 +19,7 @@ use Rattle.bus.specs.declared.bus.Bus.{Bus}
 use Rattle.bus.specs.Buses.{bus_price, bus_time}
 use Rattle.gateway.specs.Gateways.{gateway_price, relayed}
 use Rattle.radio.specs.Radios.{radio_price, radio_time}
-use Rattle.worked.specs.Figures.{processor, link, fast_bus, due}
+use Rattle.worked.specs.Figures.{processor, link, fast_bus, due, WorkedFigures}
 
 -- a bank of one domain
 abbrev pub one_domain : {D : Type 0} → (D → ℕ → ℕ) → (D → Stream → List Stream → List Stream → Option ℕ) → D → Bank
@@ -73,6 +73,8 @@ abbrev pub entered_one : Reply
 entered_one = of_change (gives [])
 
 pub record WorkedPlans : Type 0 where
+  -- the figures of frames in domains
+  pub figures : WorkedFigures
   -- two frames that are in each other's way have no order, and both are the conflict
   pub no_order : order_of timely_on_bus (due ∷ due ∷ []) no_row ≡ None
   pub conflict : conflict_of timely_on_bus (due ∷ due ∷ []) no_row ≡ 0 ∷ 1 ∷ []

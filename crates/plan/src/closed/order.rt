@@ -1,5 +1,5 @@
 // Ordering a closed plan, and reopening it.
-ghost use Rattle.std.specs.Prelude.{◌≡◌, false, [], ◌∷◌, is_ok};
+ghost use Rattle.std.specs.Prelude.{◌≡◌, ◌≤◌, ◌+◌, ◌*◌, ◌/◌, false, [], ◌∷◌, is_ok, MatchResult};
 ghost use Rattle.packing.specs.Holds.{held};
 ghost use Rattle.packing.specs.Packings.{rows};
 ghost use Rattle.timing.specs.Everywhere.{everywhere};
@@ -42,6 +42,7 @@ impl<B: Domain> Closed<B> {
         ensures holds { held self.new.tables ≡ held self.old.tables }
         ensures bank { self.new.bank ≡ self.old.bank }
         ensures refused { Iff (is_ok result ≡ false) (HasOrder (bank_of (B.count self.old.bank) (B.cost self.old.bank) (B.response self.old.bank)) (rows (held self.old.tables)) → ⊥) }
+        ensures few { MatchResult result (λ c. c.examinations ≤ c.frames * (c.frames + 1) / 2) (λ _. Unit {0}) }
         ensures upheld { Upheld (bank_of (B.count self.old.bank) (B.cost self.old.bank) (B.response self.old.bank)) (held self.old.tables) (stands_of (held self.new.tables).frames self.new.standing) }
     {
         match self.solve() {

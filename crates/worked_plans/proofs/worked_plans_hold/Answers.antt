@@ -1,8 +1,10 @@
+use Rattle.worked.proofs.Working.{figures}
 use Rattle.worked_plans.proofs.Planning.{no_order, conflict, shared_answer, sole_answer, sole_alone, planned}
 use Rattle.worked_plans.proofs.worked_plans_hold.Goals as goal
 
 pub returns : goal.returns
 returns c = record {
+  figures = figures;
   no_order = no_order;
   conflict = conflict;
   frames = planned.0;
