@@ -9,7 +9,30 @@ pub fn sheets() -> Vec<(String, Vec<u8>)> {
     sheets.extend(of_figures());
     sheets.extend(of_counts());
     sheets.extend(of_lengths());
+    sheets.extend(of_busy_periods());
     sheets
+}
+
+/// Periods of three frames, the lowest first, that leave a bus a few millionths. Each is in time in this order but for the
+/// lowest, whose busy period has to end by 4,000,000,000 for it to have an answer: it ends at that many times 1,280,000.
+const LONG_BUSY: [(u64, [u64; 3]); 6] = [
+    (3_124, [6_181_831, 3_841_231, 2_784_970]),
+    (3_124, [6_142_464, 3_848_632, 2_788_669]),
+    (3_125, [5_121_650, 4_445_009, 2_770_346]),
+    (3_125, [5_121_641, 4_004_207, 2_974_292]),
+    (3_126, [6_127_542, 3_896_360, 2_767_177]),
+    (3_126, [5_549_631, 4_159_675, 2_772_902]),
+];
+
+fn of_busy_periods() -> Vec<(String, Vec<u8>)> {
+    let mut domains = usual_bank();
+    domains[0] = Bus { arbitration: 7_960, data: 6_820 };
+    let signal = |(period, name)| Signal { sender: name, size: 12, period, deadline: period, ..quiet(name) };
+    let close = |(frames, periods): (u64, [u64; 3])| {
+        let signals: Vec<Signal> = periods.into_iter().zip(1..).map(signal).collect();
+        (format!("a busy period of {frames} frames"), sheet(&domains, &signals).into_bytes())
+    };
+    LONG_BUSY.into_iter().map(close).collect()
 }
 
 /// What is changed of a signal that nothing is wrong with.

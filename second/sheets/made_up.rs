@@ -1,4 +1,4 @@
-//! Made-up plans, with small and large loads, and deadlines drawn close to what the frames need.
+//! Made-up plans, with small and large loads, and figures drawn close to where an answer changes.
 
 use super::lines::sheet as write;
 use super::random::Random;
@@ -15,9 +15,9 @@ pub fn sheet(random: &mut Random) -> (String, Vec<u8>) {
     let sets = random.pick(&[&[1][..], &[1, 2, 3], &[1, 1, 1, 2, 4, 5, 7], &[4], &[8, 9], &[1, 2, 3, 4, 5, 6, 7, 8, 15]]);
     let pace = random.pick(&PACES);
     let mut signals: Vec<Signal> = (1..=count).map(|name| signal(name, senders, sets, pace, &domains, random)).collect();
-    let rounds = if large { 0 } else { random.pick(&[0, 0, 1, 1, 2, 3, 4]) };
-    (0..rounds).for_each(|_| tighten(&domains, &mut signals, random));
-    let about = format!("{count} signals, pace {pace:?}, {rounds} deadlines drawn close");
+    let rounds = if large { 0 } else { random.pick(&[0, 1, 1, 2, 3, 4, 6]) };
+    (0..rounds).for_each(|_| draw_close(&domains, &mut signals, random));
+    let about = format!("{count} signals, pace {pace:?}, {rounds} figures drawn close");
     (about, write(&domains, &signals).into_bytes())
 }
 
@@ -82,18 +82,36 @@ fn meeting(bus: &Domain, random: &mut Random) -> u64 {
     sum + up - down
 }
 
-/// Draws the deadline of one frame to how late it can be in the picked order, or to just below.
-fn tighten(domains: &[Domain], signals: &mut [Signal], random: &mut Random) {
+/// Draws a figure of one frame close to where an answer changes: its deadline to how late it can be in the picked order, or
+/// the period of a frame above it to where a release falls just inside or just outside of its waiting.
+fn draw_close(domains: &[Domain], signals: &mut [Signal], random: &mut Random) {
     let Ok(contents) = read(write(domains, signals).as_bytes()) else { return };
     let frames = frames_of(&contents.riders);
-    let mut orders = Orders::new(&contents.bank, &frames);
     if frames.len() > FEW {
         return;
     }
+    let mut orders = Orders::new(&contents.bank, &frames);
     let Some(last_first) = orders.picked(orders.all()) else { return };
     let (below, rest) = last_first.split_at(random.within(0, last_first.len() as u64 - 1) as usize);
     let responses = orders.responses(rest[0], set_of(&rest[1..]), set_of(below));
-    let latest = responses.into_iter().flatten().max().expect("a frame has a domain");
-    let rider = contents.riders.iter().position(|r| r.frame == rest[0]).expect("a frame has a signal");
-    signals[rider].deadline = (latest - random.within(0, 1)).max(1);
+    let rider_of = |frame| contents.riders.iter().position(|r| r.frame == frame).expect("a frame has a signal");
+    if rest.len() == 1 || random.once_in(2) {
+        let latest = responses.into_iter().flatten().max().expect("a frame has a domain");
+        signals[rider_of(rest[0])].deadline = (latest - random.within(0, 1)).max(1);
+        return;
+    }
+    let domain = frames[rest[0]].domains().next().expect("a frame has a domain");
+    let last = match domains[domain] {
+        Domain::Bus { arbitration, .. } => responses[0].map(|time| time - domains[domain].cost(frames[rest[0]].payload) + arbitration),
+        _ => responses[0],
+    };
+    let changed = &mut signals[rider_of(random.pick(&rest[1..]))];
+    changed.period = meeting_at(last.expect("a time"), random);
+    changed.deadline = changed.deadline.min(changed.period);
+}
+
+/// A period of which a multiple is `last`, the end of the time in which a release still counts, give or take a few.
+fn meeting_at(last: u64, random: &mut Random) -> u64 {
+    let times = random.within(1, (last / 1_000_000).clamp(1, 4));
+    (last / times + random.within(0, 2)).saturating_sub(1).max(1_000_000)
 }
