@@ -1,9 +1,10 @@
-//! Figures of the rules that were worked by hand, and published response times: what the planner here has to come to.
+//! Figures of the rules that were worked by hand, and published response times: what the planner here has to come
+//! to.
 
 use crate::planner::domains::Domain::{self, Bus, Gateway, Radio};
 use crate::planner::frames::{frames_of, Frame, Rider, Signal};
-use crate::planner::packing::weight;
 use crate::planner::orders::{set_of, Orders};
+use crate::planner::packing::weight;
 use crate::sheets::published::{message, slow_bus, MESSAGE};
 
 const FAST: Domain = Bus { arbitration: 2_000, data: 500 };

@@ -45,8 +45,8 @@ fn judge_many(bank: &[Domain], frames: &[Frame], answer: &Answer) -> Result<Righ
     }
 }
 
-/// The order that is listed is the picked one: each frame is in time at its place, and at each place no frame earlier in
-/// the list that has a place above would be.
+/// The order that is listed is the picked one: each frame is in time at its place, and at each place no frame
+/// earlier in the list that has a place above would be.
 fn judge_order(orders: &mut Orders, rows: &[&str], answer: &Answer) -> Result<Right, String> {
     let last_first = arrangement(orders, rows)?;
     same(answer, &orders.listed(&last_first), 0)?;
@@ -64,8 +64,8 @@ fn judge_order(orders: &mut Orders, rows: &[&str], answer: &Answer) -> Result<Ri
     Ok(Right::Order)
 }
 
-/// The frames of the listing, each once, from the last line to the first. Of frames with the same figures the earliest
-/// in the list comes to stand last, since it is examined first.
+/// The frames of the listing, each once, from the last line to the first. Of frames with the same figures the
+/// earliest in the list comes to stand last, since it is examined first.
 fn arrangement(orders: &Orders, rows: &[&str]) -> Result<Vec<usize>, String> {
     let mut free: Vec<usize> = (0..orders.frames.len()).collect();
     let mut last_first = Vec::new();
@@ -73,12 +73,16 @@ fn arrangement(orders: &Orders, rows: &[&str]) -> Result<Vec<usize>, String> {
         let at = free.iter().position(|&k| row.starts_with(&listing::row(&orders.frames[k])));
         last_first.push(free.remove(at.ok_or(format!("no frame is left for the line of {row}"))?));
     }
-    if free.is_empty() { Ok(last_first) } else { Err(format!("frames {free:?} have no line")) }
+    if free.is_empty() {
+        Ok(last_first)
+    } else {
+        Err(format!("frames {free:?} have no line"))
+    }
 }
 
-/// The frames that are listed are those that the filter leaves. They have no order, so neither has any set with all of
-/// them in it, and the filter drops every other frame. And it keeps each of them: without it, those kept before and all
-/// later frames have an order.
+/// The frames that are listed are those that the filter leaves. They have no order, so neither has any set with all
+/// of them in it, and the filter drops every other frame. And it keeps each of them: without it, those kept before
+/// and all later frames have an order.
 fn judge_conflict(orders: &mut Orders, rows: &[&str], answer: &Answer) -> Result<Right, String> {
     let conflict = listed_conflict(orders, rows)?;
     same(answer, &orders.conflict_listed(conflict), 1)?;

@@ -19,7 +19,7 @@ use sheets::Sheet;
 use std::error::Error;
 use std::process::ExitCode;
 
-const COUNT: u64 = 300;
+const COUNT: u64 = 150;
 const SEED: u64 = 1;
 
 fn main() -> ExitCode {

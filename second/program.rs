@@ -11,11 +11,8 @@ pub struct Answer {
 
 /// Runs the program with the sheet on its standard input.
 pub fn run(program: &str, sheet: &[u8]) -> io::Result<Answer> {
-    let mut child = Command::new(program)
-        .stdin(Stdio::piped())
-        .stdout(Stdio::piped())
-        .stderr(Stdio::null())
-        .spawn()?;
+    let mut child =
+        Command::new(program).stdin(Stdio::piped()).stdout(Stdio::piped()).stderr(Stdio::null()).spawn()?;
     let mut input = child.stdin.take().expect("a pipe");
     match input.write_all(sheet) {
         // A program that has read as much as it wants may end before it is given all.

@@ -1,5 +1,5 @@
-//! The kinds of domain: what a frame costs, and how late it can be. No equation is solved here: the worst case is lived
-//! through, one sending after the other.
+//! The kinds of domain: what a frame costs, and how late it can be. No equation is solved here: the worst case is
+//! played through, one sending after the other.
 
 use super::frames::Frame;
 
@@ -24,8 +24,8 @@ impl Domain {
     pub fn cost(&self, payload: u64) -> u64 {
         match *self {
             Domain::Bus { arbitration, data } => {
-                let stuffed = if payload > 16 { 5 } else { 0 };
-                34 * arbitration + (28 + 10 * payload + stuffed) * data
+                let longer_check = if payload > 16 { 5 } else { 0 };
+                34 * arbitration + (28 + 10 * payload + longer_check) * data
             }
             Domain::Gateway { fixed, byte } => fixed + byte * payload,
             Domain::Radio { byte } => byte * (payload + 6),
@@ -45,7 +45,8 @@ impl Domain {
     }
 
     /// The bus is taken for the longest frame below when all the others are released at once. Then it sends whatever
-    /// is due from above, then an instance of the frame, and so on until the busy period is over.
+    /// is due from above, then an instance of the frame, and so on until the busy period is over. Whatever was due
+    /// before one instance is due before the next, so the play need not begin anew for each.
     fn on_bus(&self, bit: u64, frame: &Frame, above: &[&Frame], below: &[&Frame]) -> Option<u64> {
         let blocking = below.iter().map(|f| self.cost(f.payload)).max().unwrap_or(0);
         let own = self.cost(frame.payload);
@@ -77,12 +78,12 @@ impl Domain {
     }
 }
 
-/// The instant at which all is sent that was released before it, or up to `ahead` after it, if nothing rests in between;
-/// None where that is past the horizon. `now` is when all is sent that is known of so far.
+/// The instant w at which nothing is left that was released before w + ahead; None where it is past the horizon. What
+/// was released at 0 takes until `now`, and `later` has what comes after it.
 ///
-/// This is the smallest solution w of w = (the work at hand) + (the cost of the later releases before w + ahead). What is
-/// sent here was released before `now + ahead`, so while `now` is not above the smallest solution, neither is it after
-/// one more sending, in whichever order they are sent. And where nothing more is due, `now` is a solution.
+/// It is the smallest solution w of: w = `now` + (the costs of the later releases before w + ahead). While the sending
+/// is not past that solution, a release that is due counts in it, so it is not past it after that one is sent either,
+/// in whichever order they go. And where nothing more is due, it has come to a solution.
 fn all_done(mut now: u64, ahead: u64, later: &mut [Release]) -> Option<u64> {
     while now <= HORIZON {
         let Some(due) = later.iter_mut().find(|r| r.at < now + ahead) else { return Some(now) };

@@ -38,7 +38,7 @@ impl<'a> Orders<'a> {
     }
 
     pub fn all(&self) -> Frames {
-        members(Frames::MAX).take(self.frames.len()).fold(0, |set, k| set | bit(k))
+        (0..self.frames.len()).fold(0, |set, k| set | bit(k))
     }
 
     /// The answers of the domains of the frame's set, each told of the frames that it carries and of no others.
@@ -70,14 +70,15 @@ impl<'a> Orders<'a> {
     }
 
     /// Of all arrangements of these frames that meet every deadline, the one whose last place has the frame that is
-    /// earliest in the list, among those the one whose last place but one has the earliest, and so on; from the last
-    /// place to the first. They are tried from the least in this sense to the greatest, so it is the first that is met.
+    /// earliest in the list, among those the one whose last place but one has the earliest, and so on. They are told
+    /// from the last place to the first and tried in the order of a dictionary, so it is the first that is met.
     ///
     /// It is the order of the rules. These give the last place to the earliest frame that is in time there with all
-    /// others above. The last frame of any arrangement that meets every deadline is in time there, so the rules' frame
-    /// is none later. And where any such arrangement is, there is one whose last frame is the rules': move that frame to
-    /// the end. For those that came after it one frame goes from above to below, which makes nothing later, and for
-    /// those before it nothing changes. The same holds at each place above, with the frames placed already below it.
+    /// others above. The last frame of any arrangement that meets every deadline is in time there, so the rules'
+    /// frame is none later. And where any such arrangement is, there is one whose last frame is the rules': move
+    /// that frame to the end. For those that came after it one frame goes from above to below, which makes nothing
+    /// later, and for those before it nothing changes. The same holds at each place above, with the frames placed
+    /// already below it.
     pub fn picked(&mut self, frames: Frames) -> Option<Vec<usize>> {
         let mut last_first: Vec<usize> = members(frames).collect();
         while !self.meets(&last_first) {
@@ -99,8 +100,8 @@ impl<'a> Orders<'a> {
         left
     }
 
-    /// Whether the frames of `top` have an arrangement in which each is in time with those of `below` below them all,
-    /// by trying each as the last of them; each set is looked at once. None where there are too many sets.
+    /// Whether the frames of `top` have an arrangement in which each is in time with those of `below` below them
+    /// all, by trying each as the last of them; each set is looked at once. None where there are too many sets.
     pub fn may_stand(&mut self, top: Frames, below: Frames) -> Option<bool> {
         if let Some(&known) = self.stands.get(&(top, below)) {
             return Some(known);
@@ -111,25 +112,25 @@ impl<'a> Orders<'a> {
         let mut stands = top == 0;
         for last in members(top) {
             let above = top & !bit(last);
-            if !stands && self.in_time(last, above, below) {
-                stands = self.may_stand(above, below | bit(last))?;
+            if self.in_time(last, above, below) && self.may_stand(above, below | bit(last))? {
+                stands = true;
+                break;
             }
         }
         self.stands.insert((top, below), stands);
         Some(stands)
     }
 
-    /// The listing of an arrangement of all frames, given from its last place to its first. An answer of none, which the
-    /// rules keep out of an order, is told as no time at all.
+    /// The listing of an arrangement of all frames, given from its last place to its first. An answer of none, which
+    /// an order cannot have, is told as no time at all.
     pub fn listed(&self, last_first: &[usize]) -> String {
-        let count = last_first.len();
-        (0..count)
-            .map(|place| {
-                let (below, rest) = last_first.split_at(count - 1 - place);
-                let times: Vec<u64> = self.responses(rest[0], set_of(&rest[1..]), set_of(below)).into_iter().flatten().collect();
-                listing::in_order(place, &self.frames[rest[0]], &times)
-            })
-            .collect()
+        let line = |place| {
+            let (below, rest) = last_first.split_at(last_first.len() - 1 - place);
+            let answers = self.responses(rest[0], set_of(&rest[1..]), set_of(below));
+            let times: Vec<u64> = answers.into_iter().flatten().collect();
+            listing::in_order(place, &self.frames[rest[0]], &times)
+        };
+        (0..last_first.len()).map(line).collect()
     }
 
     pub fn conflict_listed(&self, conflict: Frames) -> String {

@@ -12,8 +12,9 @@ pub fn weight(bank: &[Domain], riders: &[Rider]) -> u64 {
     frames_of(riders).iter().map(|f| f.domains().map(|k| weighs(f, k)).sum::<u64>()).sum()
 }
 
-/// The frame that `signal` is to ride in, if there is any. The weight before is the same for every choice, so the smallest
-/// growth is the smallest weight after; the first of equals is an earlier frame, and an old one before a new one.
+/// The frame that `signal` is to ride in, if there is any. The weight before is the same for every choice, so the
+/// smallest growth is the smallest weight after; the first of equals is an earlier frame, and an old one before a
+/// new one.
 fn choice(bank: &[Domain], riders: &[Rider], signal: &Signal) -> Option<usize> {
     let frames = frames_of(riders);
     let may_join = |f: &Frame| f.sender == signal.sender && f.fill + signal.size <= FULL;

@@ -32,8 +32,7 @@ pub fn read(sheet: &[u8]) -> Result<Contents, Fault> {
     for at in 0..lines.len().max(4) {
         // A line that is not there is told like one that has nothing in it.
         let line = lines.get(at).copied().unwrap_or(b"");
-        take_line(&mut contents, at, line)
-            .map_err(|(number, field)| Fault { number, line: at as u64 + 1, field })?;
+        take_line(&mut contents, at, line).map_err(|(number, field)| Fault { number, line: at as u64 + 1, field })?;
     }
     Ok(contents)
 }
@@ -76,8 +75,8 @@ fn within(figures: &[(u64, u64, u64)]) -> InLine<()> {
     }
 }
 
-/// The values of a line's fields, which have this many digits. A piece with more than its digits is the fault of what is
-/// due after it, the next field or the line feed.
+/// The values of a line's fields, which have this many digits. A piece with more than its digits is the fault of
+/// what is due after it, the next field or the line feed.
 fn fields(line: &[u8], letter: u8, widths: &[usize]) -> InLine<Vec<u64>> {
     let (text, ended) = match line {
         [text @ .., b'\n'] => (text, true),

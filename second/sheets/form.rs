@@ -10,7 +10,9 @@ pub fn sheets() -> Vec<(String, Vec<u8>)> {
         let pieces: Vec<&str> = line.split(' ').collect();
         let mut changed = at_letter(line);
         changed.extend(at_end(line));
-        (1..pieces.len()).for_each(|field| changed.extend(at_field(&pieces, field)));
+        // The fields of the second line are those of the first.
+        let fields = if at == 1 { 0 } else { pieces.len() - 1 };
+        (1..=fields).for_each(|field| changed.extend(at_field(&pieces, field)));
         for (about, new) in changed {
             let whole = [ended(&lines[..at]), new, ended(&lines[at + 1..])].concat();
             sheets.push((format!("line {}: {about}", at + 1), whole.into_bytes()));
@@ -65,6 +67,7 @@ fn at_field(pieces: &[&str], field: usize) -> Vec<(String, String)> {
         ("a space in it", format!(" {less} 0")),
         ("twice", format!(" {old} {old}")),
     ];
-    let whole = |new: &str| format!("{before}{new}{}\n", after.iter().map(|piece| format!(" {piece}")).collect::<String>());
+    let whole =
+        |new: &str| format!("{before}{new}{}\n", after.iter().map(|piece| format!(" {piece}")).collect::<String>());
     ways.iter().map(|(about, new)| (format!("field {field}: {about}"), whole(new))).collect()
 }

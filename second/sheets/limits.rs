@@ -9,12 +9,33 @@ pub fn sheets() -> Vec<(String, Vec<u8>)> {
     sheets.extend(of_figures());
     sheets.extend(of_counts());
     sheets.extend(of_lengths());
+    sheets.extend(of_meetings());
     sheets.extend(of_busy_periods());
     sheets
 }
 
-/// Periods of three frames, the lowest first, that leave a bus a few millionths. Each is in time in this order but for the
-/// lowest, whose busy period has to end by 4,000,000,000 for it to have an answer: it ends at that many times 1,280,000.
+/// Seven frames of one length; the first of them is released again just before, at or after the last instant that
+/// counts for the lowest, which is earliest in the list.
+fn of_meetings() -> Vec<(String, Vec<u8>)> {
+    let mut domains = usual_bank();
+    domains[2] = Gateway { fixed: 100_000, byte: 1_000 };
+    let on_bus = 6 * domains[0].cost(64) + 2_000;
+    let in_gateway = 7 * domains[2].cost(64);
+    let mut sheets = Vec::new();
+    for (set, instant) in [(1, on_bus), (4, in_gateway)] {
+        for period in [instant - 1, instant, instant + 1] {
+            let mut signals: Vec<Signal> = (1..=7).map(|k| Signal { size: 64, sender: k, set, ..quiet(k) }).collect();
+            (signals[6].period, signals[6].deadline) = (period, period);
+            sheets
+                .push((format!("set {set}, the first again after {period}"), sheet(&domains, &signals).into_bytes()));
+        }
+    }
+    sheets
+}
+
+/// Periods of three frames, the lowest first, that leave a bus next to no time. The busy period of the lowest ends
+/// at so many times 1,280,000, the cost of a frame, and it has an answer, in time, where that is at most
+/// 4,000,000,000.
 const LONG_BUSY: [(u64, [u64; 3]); 6] = [
     (3_124, [6_181_831, 3_841_231, 2_784_970]),
     (3_124, [6_142_464, 3_848_632, 2_788_669]),
@@ -74,12 +95,31 @@ fn of_signals() -> Vec<(String, Vec<u8>)> {
 
 fn of_figures() -> Vec<(String, Vec<u8>)> {
     let buses = [
-        (999, 125), (1_000, 124), (1_000, 125), (1_000, 1_000), (1_000, 1_001), (8_000, 125), (8_000, 8_000),
-        (8_000, 8_001), (8_001, 125), (8_001, 8_001), (999, 124), (0, 0), (0xFFFF_FFFF, 0xFFFF_FFFF),
+        (999, 125),
+        (1_000, 124),
+        (1_000, 125),
+        (1_000, 1_000),
+        (1_000, 1_001),
+        (8_000, 125),
+        (8_000, 8_000),
+        (8_000, 8_001),
+        (8_001, 125),
+        (8_001, 8_001),
+        (999, 124),
+        (0, 0),
+        (0xFFFF_FFFF, 0xFFFF_FFFF),
     ];
     let gateways = [
-        (999, 0), (1_000, 0), (100_000, 0), (100_001, 0), (1_000, 1_000), (1_000, 1_001), (999, 1_001),
-        (100_000, 1_000), (0, 0), (0xFFFF_FFFF, 0xFFFF_FFFF),
+        (999, 0),
+        (1_000, 0),
+        (100_000, 0),
+        (100_001, 0),
+        (1_000, 1_000),
+        (1_000, 1_001),
+        (999, 1_001),
+        (100_000, 1_000),
+        (0, 0),
+        (0xFFFF_FFFF, 0xFFFF_FFFF),
     ];
     let radios = [9_999, 10_000, 200_000, 200_001, 0, 0xFFFF_FFFF];
     let mut changes: Vec<(usize, Domain)> = Vec::new();
@@ -103,9 +143,8 @@ fn of_counts() -> Vec<(String, Vec<u8>)> {
     let whole = |name| Signal { size: 64, ..quiet(name) };
     let other = |name| Signal { sender: 2, ..small(name) };
     let afar = |name| Signal { size: 64, sender: name % 16, set: 15, ..quiet(name) };
-    let signals = |count, of: fn(u64) -> Signal, more: Vec<Signal>| -> Vec<Signal> {
-        (1..=count).map(of).chain(more).collect()
-    };
+    let signals =
+        |count, of: fn(u64) -> Signal, more: Vec<Signal>| -> Vec<Signal> { (1..=count).map(of).chain(more).collect() };
     let cases = [
         ("no signals", vec![]),
         ("256 signals", signals(256, small, vec![])),
@@ -132,7 +171,7 @@ fn of_lengths() -> Vec<(String, Vec<u8>)> {
     let feeds = |length: usize| (format!("{length} line feeds"), vec![b'\n'; length]);
     let head = bank(&usual_bank()).len();
     let mut sheets = vec![feeds(16_384), feeds(16_385), cut(16_383), cut(16_384), cut(16_385), cut(80_000)];
-    // Every cut through the first four lines and one signal.
-    sheets.extend((0..=head + 32).map(cut));
+    // Cuts through the first four lines and one signal, one in three.
+    sheets.extend((0..=head + 32).step_by(3).map(cut));
     sheets
 }

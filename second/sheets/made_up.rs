@@ -12,9 +12,11 @@ pub fn sheet(random: &mut Random) -> (String, Vec<u8>) {
     let large = random.once_in(20);
     let count = if large { random.within(15, 50) } else { random.within(1, 10) };
     let senders = if large { random.within(3, 15) } else { random.within(1, 4) };
-    let sets = random.pick(&[&[1][..], &[1, 2, 3], &[1, 1, 1, 2, 4, 5, 7], &[4], &[8, 9], &[1, 2, 3, 4, 5, 6, 7, 8, 15]]);
+    let sets =
+        random.pick(&[&[1][..], &[1, 2, 3], &[1, 1, 1, 2, 4, 5, 7], &[4], &[8, 9], &[1, 2, 3, 4, 5, 6, 7, 8, 15]]);
     let pace = random.pick(&PACES);
-    let mut signals: Vec<Signal> = (1..=count).map(|name| signal(name, senders, sets, pace, &domains, random)).collect();
+    let mut signals: Vec<Signal> =
+        (1..=count).map(|name| signal(name, senders, sets, pace, &domains, random)).collect();
     let rounds = if large { 0 } else { random.pick(&[0, 1, 1, 2, 3, 4, 6]) };
     (0..rounds).for_each(|_| draw_close(&domains, &mut signals, random));
     let about = format!("{count} signals, pace {pace:?}, {rounds} figures drawn close");
@@ -82,8 +84,8 @@ fn meeting(bus: &Domain, random: &mut Random) -> u64 {
     sum + up - down
 }
 
-/// Draws a figure of one frame close to where an answer changes: its deadline to how late it can be in the picked order, or
-/// the period of a frame above it to where a release falls just inside or just outside of its waiting.
+/// Draws a figure close to where an answer changes: the deadline of a frame to how late it can be in the picked
+/// order, or the period of a frame above it to where a release falls just inside or just outside of its waiting.
 fn draw_close(domains: &[Domain], signals: &mut [Signal], random: &mut Random) {
     let Ok(contents) = read(write(domains, signals).as_bytes()) else { return };
     let frames = frames_of(&contents.riders);
@@ -101,12 +103,13 @@ fn draw_close(domains: &[Domain], signals: &mut [Signal], random: &mut Random) {
         return;
     }
     let domain = frames[rest[0]].domains().next().expect("a frame has a domain");
-    let last = match domains[domain] {
-        Domain::Bus { arbitration, .. } => responses[0].map(|time| time - domains[domain].cost(frames[rest[0]].payload) + arbitration),
-        _ => responses[0],
+    let own = domains[domain].cost(frames[rest[0]].payload);
+    let counts = match domains[domain] {
+        Domain::Bus { arbitration, .. } => responses[0].expect("a time") - own + arbitration,
+        _ => responses[0].expect("a time"),
     };
     let changed = &mut signals[rider_of(random.pick(&rest[1..]))];
-    changed.period = meeting_at(last.expect("a time"), random);
+    changed.period = meeting_at(counts, random);
     changed.deadline = changed.deadline.min(changed.period);
 }
 

@@ -4,9 +4,10 @@ use super::lines::{quiet, sheet, usual_bank};
 use crate::planner::domains::Domain;
 use crate::planner::frames::Signal;
 
-/// The three messages with which the analysis of 2007 refuted the older one: each takes 1 ms at 125 kbit/s; their
-/// periods are 2.5, 3.5 and 3.5 ms, their deadlines 2.5, 3.25 and 3.25 ms. A bit of 8,000 ns is the same here, but payload 8
-/// takes 1,136,000 ns, so that a millisecond there is 1,136,000 ns here.
+/// The three messages with which the revised analysis of CAN of 2007 refutes the older one. Each takes 1 ms at 125
+/// kbit/s; their periods are 2.5, 3.5 and 3.5 ms, their deadlines 2.5, 3.25 and 3.25 ms. The third is in time by its
+/// first instance and late by its second. A bit of 8,000 ns is the same here, but payload 8 takes 1,136,000 ns, so
+/// each millisecond there is 1,136,000 ns here.
 pub const MESSAGE: u64 = 1_136_000;
 
 /// In hundredths of a message: period and deadline.
@@ -47,7 +48,8 @@ fn three_messages() -> Vec<(String, Vec<u8>)> {
     for list in LISTS {
         let latest = 350 * MESSAGE / 100;
         for deadline in [None, Some(latest - 1), Some(latest)] {
-            let with = |signal: Signal| Signal { deadline: deadline.unwrap_or(signal.deadline).min(signal.period), ..signal };
+            let with =
+                |signal: Signal| Signal { deadline: deadline.unwrap_or(signal.deadline).min(signal.period), ..signal };
             let signals: Vec<Signal> = list.iter().map(|&at| with(message(at))).collect();
             let about = format!("messages {list:?} with deadline {deadline:?}");
             sheets.push((about, sheet(&domains, &signals).into_bytes()));
@@ -62,10 +64,6 @@ fn hasty(name: u64) -> Signal {
 
 pub fn three_signals() -> String {
     let signal = |name, sender, size, period, set| Signal { name, sender, size, period, deadline: period, set };
-    let signals = [
-        signal(1, 1, 8, 10_000_000, 1),
-        signal(2, 2, 2, 5_000_000, 3),
-        signal(3, 1, 4, 10_000_000, 1),
-    ];
+    let signals = [signal(1, 1, 8, 10_000_000, 1), signal(2, 2, 2, 5_000_000, 3), signal(3, 1, 4, 10_000_000, 1)];
     sheet(&usual_bank(), &signals)
 }
