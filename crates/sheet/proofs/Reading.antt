@@ -73,12 +73,12 @@ lawful_no_fault s d ss p e h (body c r q short is g) =
     cc same.3
 
 pub comes_one : (s t u : List ℕ) (r q : Result Counted SheetFault) → Comes s t r → Comes s u q → (t ≡ u) × (r ≡ q)
-comes_one s t u r q (planned d ss p a h says) (planned c ts v b g said) =
+comes_one s t u r q (planned d ss p a h tells says) (planned c ts v b g tell said) =
     let same = lawful_one s d c ss ts p v h g in
     let answers : told counts a ≡ told counts b = says ∙ ap₂ (λ x y. order_says (sheet_bank x) y) same.0 same.2 ∙ sym said in
     (ap₂ plan_listing same.0 same.2, ap of_order (order_apart a b answers))
-comes_one s t u r q (planned d ss p a h says) (faulty g) = absurd (lawful_no_fault s d ss p _ h g)
-comes_one s t u r q (faulty h) (planned d ss p a g says) = absurd (lawful_no_fault s d ss p _ g h)
+comes_one s t u r q (planned d ss p a h tells says) (faulty g) = absurd (lawful_no_fault s d ss p _ h g)
+comes_one s t u r q (faulty h) (planned d ss p a g tells says) = absurd (lawful_no_fault s d ss p _ g h)
 comes_one s t u r q (faulty {e = e} h) (faulty {e = x} g) =
     let same = faulty_one s e x h g in
     (ap fault_listing same, ap Err same)

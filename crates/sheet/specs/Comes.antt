@@ -10,6 +10,7 @@ use Rattle.plan.specs.Closes.{ordered, order_says}
 use Rattle.plan.specs.Said.{told}
 use Rattle.listing.specs.declared.text.Listing.{Listing}
 use Rattle.listing.specs.Lines.{listing}
+use Rattle.listing.specs.Tells.{Told}
 use Rattle.sheet.specs.declared.fault.Cause.TheVariants.{Length}
 use Rattle.sheet.specs.declared.fault.SheetFault.{SheetFault}
 use Rattle.sheet.specs.Banks.{sheet_bank}
@@ -22,9 +23,11 @@ use Rattle.sheet.specs.Signals.{Named, Taken, SignalFault, signal_lines}
 abbrev pub empty : Packing
 empty = packed [] 0
 
--- the plan of some signals is ordered and listed
+-- the plan of some signals is ordered and listed; the listing tells what then stands
 abbrev pub Listed : Bank → Packing → Listing × Result Counted PlanFault → Type 0
-Listed m p given = (given.0.bytes.items ≡ listing m p (ordered m p)) × (told (λ c. c.frames ∷ c.examinations ∷ []) given.1 ≡ order_says m p)
+Listed m p given =
+    (given.0.bytes.items ≡ listing m p (ordered m p)) × Told m p (ordered m p) given.0.bytes.items
+    × (told (λ c. c.frames ∷ c.examinations ∷ []) given.1 ≡ order_says m p)
 
 -- the signals of a text, entered one after another, none of which is refused
 abbrev pub Entered : Bank → List ℕ → List Signal → Packing → Type 0

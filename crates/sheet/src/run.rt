@@ -6,7 +6,7 @@ ghost use Rattle.sheet.specs.Comes.{LinesCome, SheetComes};
 ghost use Rattle.sheet.specs.Runs.{of_order, Comes, Ran};
 
 use crate::body::enter_all;
-use crate::fault::{Cause, SheetFault};
+use crate::fault::{Cause, OnLine, SheetFault};
 use crate::head::read_bank;
 use domains::domain::Domain;
 use listing::list::{list_fault, list_plan};
@@ -60,13 +60,13 @@ fn list_sheet(sheet: &[u8]) -> Result<(Listing, Result<Counted, PlanFault>), She
     list_lines(bank, text)
 }
 
-// The answer of order; a refusal concerns the whole sheet.
+// The answer of order. A refusal concerns the whole sheet, which is line 0.
 fn of_order(answer: Result<Counted, PlanFault>) -> Result<Counted, SheetFault>
     ensures { result ≡ of_order answer }
 {
     match answer {
         Ok(counted) => Ok(counted),
-        Err(fault) => Err(whole(Cause::Plan(fault))),
+        Err(fault) => Err(OnLine { line: 0, fault }.into()),
     }
 }
 
