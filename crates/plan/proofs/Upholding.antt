@@ -106,6 +106,7 @@ module _ (m : Bank) (laws : Laws (in_time m)) (p : Packing) where
         within = c.within;
         none = λ h. c.none (from_order m _ h);
         each = λ x rest k. to_order m _ (c.each x rest k);
+        counted = ap (order_answers m p) e;
       }
   upheld_by few (Some o) e =
       let j = judged (Some o) e in

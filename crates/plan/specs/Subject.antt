@@ -10,7 +10,9 @@ use Rattle.timing.specs.Everywhere.{response_in}
 use Rattle.timing.specs.Places.{row_at}
 use Rattle.plan.specs.Banks.{Bank}
 use Rattle.plan.specs.Closes.{order_says, identifier_at, identifier_says, response_says}
-use Rattle.plan.specs.Said.Said.{gives}
+use Rattle.plan.specs.declared.fault.PlanFault.TheVariants.{NoOrder}
+use Rattle.plan.specs.Faults.{plan_told}
+use Rattle.plan.specs.Said.Said.{gives, refuses}
 use Rattle.plan.specs.Stands.{Stands}
 use Rattle.plan.specs.Stands.Stands.{nothing, order, conflict}
 
@@ -80,6 +82,8 @@ pub record ConflictStands (m : Bank) (p : Packing) (cs : List ℕ) : Type 0 wher
   pub within : Part (numbers 0 (rows p)) cs
   pub none : HasOrder m (rows_at p cs) → ⊥
   pub each : (x : ℕ) (rest : List ℕ) → Pick x cs rest → HasOrder m (rows_at p rest)
+  -- the refusal tells how many they are
+  pub counted : order_says m p ≡ refuses (plan_told (NoOrder (length cs)))
 
 -- what stands is right
 abbrev pub Upheld : Bank → Packing → Stands → Type 0
