@@ -76,7 +76,8 @@ pub record WorkedPlans : Type 0 where
   -- two frames that are in each other's way have no order, and both are the conflict
   pub no_order : order_of timely_on_bus (due ∷ due ∷ []) no_row ≡ None
   pub conflict : conflict_of timely_on_bus (due ∷ due ∷ []) no_row ≡ 0 ∷ 1 ∷ []
-  -- three signals: their two frames, the response times at their priorities, the order, and the two examinations that it takes
+  -- three signals: their two frames, the response times at their priorities, the order, and the two examinations that
+  -- it takes
   pub frames : rows (run four_domains new three_signals).packing ≡ shared ∷ sole ∷ []
   pub shared_answer : four_domains.response 0 shared (sole ∷ []) [] ≡ Some 234000
   pub sole_answer : four_domains.response 0 sole [] (shared ∷ []) ≡ Some 234000
