@@ -14,8 +14,8 @@ pub record BusResponse (a : ℕ) (s : Stream) (above : List Stream) (b r : ℕ) 
   -- the busy period: the smallest solution of its equation
   pub busy : ℕ
   pub busy_is : Smallest (λ t. t ≡ busy_load s above b t) 1 horizon (Some busy)
-  -- each instance of it has a queueing delay, begins no earlier than it is released, is done when the busy period ends, and
-  -- takes no longer than r
+  -- each instance of it has a queueing delay, begins no earlier than it is released, is done when the busy period
+  -- ends, and takes no longer than r
   pub each : (q : ℕ) → q < ceil busy s.period → (w : ℕ) × Waits a s above b q w × (q * s.period ≤ w) × (w + s.cost ≤ busy) × (w + s.cost ≤ r + q * s.period)
   -- and one of them takes just r
   pub latest : ℕ

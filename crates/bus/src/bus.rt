@@ -9,6 +9,6 @@ pub struct Bus {
     ghost sends: { LawfulData arbitration «data» },
 }
 
-mod delay;
+mod busy;
 pub mod trace;
 pub mod wire;

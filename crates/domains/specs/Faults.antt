@@ -34,7 +34,8 @@ abbrev pub first_outside : ℕ → List Limited → Option Refusal
 first_outside n [] = None
 first_outside n (g ∷ gs) = cond (inside g) (first_outside (n + 1) gs) (Some (outside n))
 
--- what the making of a domain answers: a domain with the figures asked for, or the refusal of the first that is outside its limits
+-- what the making of a domain answers: a domain with the figures asked for, or the refusal of the first that is
+-- outside its limits
 abbrev pub Made : {D : Type 0} → (D → List ℕ) → List Limited → Result D DomainFault → Type 0
 Made figures wanted (Ok d) = (figures d ≡ map (λ g. g.value) wanted) × (first_outside 1 wanted ≡ None)
 Made figures wanted (Err e) = first_outside 1 wanted ≡ Some (domain_told e)

@@ -8,7 +8,7 @@ use crate::fault::DomainFault;
 pub fn check_figure(low: u64, figure: u64, high: u64, fault: DomainFault) -> Result<(), DomainFault>
     ensures { MatchResult result (λ _. Within low figure high) (λ e. (e ≡ fault) × (Within low figure high → ⊥)) }
 {
-    if figure < low || figure > high {
+    if !(low..=high).contains(&figure) {
         return Err(fault);
     }
     Ok(())

@@ -1,5 +1,6 @@
 -- The limits of a frame, as a fact and as a test. Assumes nothing.
-use Rattle.std.proofs.Common.{◌≡◌, true, false, Ok, Err, Decides, subst, arith}
+use Rattle.std.proofs.Common.{◌≡◌, true, false, Some, None, Ok, Err, Result, Decides, ap, ◌∙◌, subst, arith}
+use Rattle.std.specs.Result.{result_ok}
 use Rattle.std.proofs.lemmas.Bool.{false_from_ne_true}
 use Rattle.std.proofs.lemmas.Bool.Decides.{nat_tests}
 use Rattle.frames.specs.declared.fault.RowFault.{RowFault}
@@ -28,9 +29,15 @@ breaks_unlawful r Period b h = b.1 h.paced
 breaks_unlawful r Deadline b h = b.2 h.timely
 breaks_unlawful r Set b h = b.3 h.carried
 
--- what the check of a row tells
-pub checked_err : (r : Row) (e : RowFault) → Checked r (Err e) → lawful r ≡ false
-checked_err r e b = false_from_ne_true (lawful r) (λ t. breaks_unlawful r e b (from_lawful r t))
+-- the row of a record is within the limits
+pub lawful_row : (r : Row) (f : Frame) → row_of f ≡ r → lawful r ≡ true
+lawful_row r f e = subst (λ (x : Row). lawful x ≡ true) e (lawful_from (row_of f) (lawful_frame f))
 
-pub checked_ok : (r : Row) (f : Frame) → Checked r (Ok f) → lawful r ≡ true
-checked_ok r f h = subst (λ (x : Row). lawful x ≡ true) h (lawful_from (row_of f) (lawful_frame f))
+-- what the check of a row tells, where its fault is left out
+pub checked_none : (r : Row) (x : Result Frame RowFault) → Checked r x → None ≡ result_ok x → lawful r ≡ false
+checked_none r (Ok f) h e = cc
+checked_none r (Err b) h e = false_from_ne_true (lawful r) (λ t. breaks_unlawful r b h (from_lawful r t))
+
+pub checked_some : (r : Row) (x : Result Frame RowFault) (f : Frame) → Checked r x → Some f ≡ result_ok x → row_of f ≡ r
+checked_some r (Ok g) f h e = let same : f ≡ g = cc in ap row_of same ∙ h
+checked_some r (Err b) f h e = cc

@@ -35,9 +35,7 @@ pub(crate) fn gather<K: Kind>(
     let mut found = ArrayVec::new();
     for (i, row) in question.rows.iter().enumerate() {
         if question.stance(i) == wanted {
-            let Ok(frame) = Frame::try_from(*row) else {
-                return None;
-            };
+            let frame = Frame::try_from(*row).ok()?;
             found.push(stream_of(kind, &frame));
         }
     }

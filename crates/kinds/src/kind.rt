@@ -17,8 +17,8 @@ pub trait Kind {
     fn price(&self, payload: u8) -> u64
         ensures { result ≡ price self.now payload };
 
-    // `Own` is asked here and is no fact of a view: a type that held it would ask more of a caller of the gateway, which
-    // does without.
+    // These are asked here and are no facts of a view: a type that held them would ask more of a caller of the gateway,
+    // which does without.
     fn time(&self, view: &View<'_>) -> Option<u64>
         requires own { Own (price self.now) view.now.own }
         requires under { AllByRecursion Fit view.now.below.now }

@@ -17,9 +17,7 @@ pub fn look<K: Kind>(kind: &K, question: &Question<'_>) -> Option<Streams>
     if question.rows.len() > MAX_FRAMES || question.frame >= question.rows.len() {
         return None;
     }
-    let Ok(frame) = Frame::try_from(question.rows[question.frame]) else {
-        return None;
-    };
+    let frame = Frame::try_from(question.rows[question.frame]).ok()?;
     let above = gather(kind, question, Place::Above)?;
     let below = gather(kind, question, Place::Below)?;
     Some(Streams {

@@ -25,8 +25,8 @@ pub struct View<'a> {
     pub own: Stream,
     pub above: Load<'a>,
     pub below: &'a [Stream],
-    ghost fit: { Fit own },
-    ghost few: { length above.streams.now ≤ 96 },
+    pub ghost fit: { Fit own },
+    pub ghost few: { length above.streams.now ≤ 96 },
 }
 
 impl Streams {

@@ -21,6 +21,13 @@ fn row(period: u64) -> Row {
     }
 }
 
+// Three frames, the last of which is asked about, with the others above it.
+fn three() -> [Row; 3] {
+    [row(2_840_000), row(3_976_000), row(3_976_000)]
+}
+
+const TWO_ABOVE: [Place; 3] = [Place::Above, Place::Above, Place::Absent];
+
 // The bank of the README: a bus, a gateway and a link. The second frame is not sent over the link.
 #[test]
 fn frames_in_order_of_priority(rt: HostRuntime) -> Result<(), Fail> {
@@ -61,44 +68,28 @@ fn three_frames_in_a_bank_of_four(rt: HostRuntime) -> Result<(), Fail> {
         Pair::new(bus, bus),
         Pair::new(Gateway::new(20_000, 100)?, Radio::new(50_000)?),
     );
-    let rows = [row(2_840_000), row(3_976_000), row(3_976_000)];
-    let places = [Place::Above, Place::Above, Place::Absent];
+    let rows = three();
+    let question = about(&rows, &TWO_ABOVE, 2);
     assert_eq!(rt; bank.count(), 4);
-    assert_eq!(rt;
-        bank.answer(0, &about(&rows, &places, 2)),
-        Some(3_976_000),
-        "bus"
-    );
-    assert_eq!(rt;
-        bank.answer(1, &about(&rows, &places, 2)),
-        Some(3_976_000),
-        "second bus"
-    );
-    assert_eq!(rt;
-        bank.answer(2, &about(&rows, &places, 2)),
-        Some(62_400),
-        "gateway"
-    );
-    assert_eq!(rt;
-        bank.answer(3, &about(&rows, &places, 2)),
-        Some(2_100_000),
-        "radio"
-    );
-    assert_eq!(rt; bank.answer(4, &about(&rows, &places, 2)), None, "outside");
+    assert_eq!(rt; bank.answer(0, &question), Some(3_976_000), "bus");
+    assert_eq!(rt; bank.answer(1, &question), Some(3_976_000), "second bus");
+    assert_eq!(rt; bank.answer(2, &question), Some(62_400), "gateway");
+    assert_eq!(rt; bank.answer(3, &question), Some(2_100_000), "radio");
+    assert_eq!(rt; bank.answer(4, &question), None, "outside");
     Ok(())
 }
 
 #[test]
 fn instances_of_a_busy_period(rt: HostRuntime) -> Result<(), Fail> {
     let bus = Bus::new(8_000, 8_000)?;
-    let rows = [row(2_840_000), row(3_976_000), row(3_976_000)];
-    let places = [Place::Above, Place::Above, Place::Absent];
-    assert_eq!(rt; bus.busy_period(&about(&rows, &places, 2)), Some(7_952_000));
-    assert_eq!(rt; bus.instance(&about(&rows, &places, 2), 0), Some(3_408_000));
-    assert_eq!(rt; bus.instance(&about(&rows, &places, 2), 1), Some(3_976_000));
-    assert_eq!(rt; bus.instance(&about(&rows, &places, 2), 2), None);
+    let rows = three();
+    let question = about(&rows, &TWO_ABOVE, 2);
+    assert_eq!(rt; bus.busy_period(&question), Some(7_952_000));
+    assert_eq!(rt; bus.instance(&question, 0), Some(3_408_000));
+    assert_eq!(rt; bus.instance(&question, 1), Some(3_976_000));
+    assert_eq!(rt; bus.instance(&question, 2), None);
     assert_eq!(rt;
-        bus.busy_period(&about(&rows, &places, 3)),
+        bus.busy_period(&about(&rows, &TWO_ABOVE, 3)),
         None,
         "not in the list"
     );
@@ -110,9 +101,11 @@ fn instances_of_a_busy_period(rt: HostRuntime) -> Result<(), Fail> {
 fn never_idle(rt: HostRuntime) -> Result<(), Fail> {
     let bus = Bus::new(8_000, 8_000)?;
     let rows = [row(1_000_000), row(1_000_000)];
-    assert_eq!(rt; bus.answer(0, &about(&rows, &[Place::Above], 1)), None);
-    assert_eq!(rt; bus.busy_period(&about(&rows, &[Place::Above], 1)), None);
-    assert_eq!(rt; bus.instance(&about(&rows, &[Place::Above], 1), 0), None);
+    let places = [Place::Above];
+    let question = about(&rows, &places, 1);
+    assert_eq!(rt; bus.answer(0, &question), None);
+    assert_eq!(rt; bus.busy_period(&question), None);
+    assert_eq!(rt; bus.instance(&question, 0), None);
     Ok(())
 }
 
@@ -121,14 +114,9 @@ fn never_idle(rt: HostRuntime) -> Result<(), Fail> {
 fn in_each_others_way(rt: HostRuntime) -> Result<(), Fail> {
     let bus = Bus::new(2_000, 500)?;
     let rows = [row(1_000_000), row(1_000_000)];
-    assert_eq!(rt;
-        bus.answer(0, &about(&rows, &[Place::Above, Place::Below], 0)),
-        Some(244_000)
-    );
-    assert_eq!(rt;
-        bus.answer(0, &about(&rows, &[Place::Above, Place::Below], 1)),
-        Some(244_000)
-    );
+    let places = [Place::Above, Place::Below];
+    assert_eq!(rt; bus.answer(0, &about(&rows, &places, 0)), Some(244_000));
+    assert_eq!(rt; bus.answer(0, &about(&rows, &places, 1)), Some(244_000));
     assert_eq!(rt; bus.answer(0, &about(&rows, &[], 0)), Some(122_000));
     Ok(())
 }

@@ -28,23 +28,12 @@ fn numbers_of_a_bank(rt: HostRuntime) -> Result<(), Fail> {
     let bank = Pair::new(gateway, radio);
     let rows = [row(64), row(8)];
     let places = [Place::Above, Place::Absent];
+    let question = about(&rows, &places, 1);
     let frame = Frame::try_from(rows[1])?;
     assert_eq!(rt; bank.count(), 2);
-    assert_eq!(rt;
-        bank.answer(0, &about(&rows, &places, 1)),
-        Some(47_200),
-        "gateway"
-    );
-    assert_eq!(rt;
-        bank.answer(1, &about(&rows, &places, 1)),
-        Some(4_200_000),
-        "radio"
-    );
-    assert_eq!(rt;
-        bank.answer(2, &about(&rows, &places, 1)),
-        None,
-        "outside the bank"
-    );
+    assert_eq!(rt; bank.answer(0, &question), Some(47_200), "gateway");
+    assert_eq!(rt; bank.answer(1, &question), Some(4_200_000), "radio");
+    assert_eq!(rt; bank.answer(2, &question), None, "outside the bank");
     assert_eq!(rt; bank.cost(0, &frame), 20_800);
     assert_eq!(rt; bank.cost(1, &frame), 700_000);
     assert_eq!(rt; bank.cost(2, &frame), 0);

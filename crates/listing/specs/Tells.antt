@@ -27,8 +27,8 @@ ConflictRight m p (conflict cs) = ConflictStands m p cs
 
 -- what the line tells of frame n of an order, with us before it and ls after it
 pub record OrderLine (m : Bank) (p : Packing) (o us : List ℕ) (n : ℕ) (ls line : List ℕ) : Type 0 where
-  -- what a planner reads of it: its identifier, its record, and for each domain of its set, lowest first, a time, which is
-  -- within its deadline
+  -- what a planner reads of it: its identifier, its record, and for each domain of its set, lowest first, a time,
+  -- which is within its deadline
   pub identified : identifier_says p (order o) n ≡ gives (identifier_at (length us) ∷ [])
   pub recorded : record_says p n ≡ gives (figures (row p n))
   pub times : List ℕ

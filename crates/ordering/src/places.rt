@@ -67,6 +67,7 @@ pub(crate) fn arrange<B: Domain>(
         let f = looked.frame?;
         places[f] = Place::Below;
         placement.examinations += looked.examinations;
+        // The number is below 96: the cast is proved to lose nothing, where `u8::try_from` would want an `unwrap`.
         placement.numbers.insert(0, f as u8);
     }
     Some(placement)

@@ -39,8 +39,9 @@ pub record Placeable (p : Packing) (s : Signal) (n : ℕ) : Type 0 where
   pub room : n < 96
   pub joins : n < p.frames → may_join (row p n) s ≡ true
 
--- the new packing has the signal in a frame that may take it. No other such frame makes a lighter one, and every earlier
--- such frame a heavier; a new frame is numbered after all old ones. None makes a packing that is lighter than before
+-- the new packing has the signal in a frame that may take it. No other such frame makes a lighter one, and every
+-- earlier such frame a heavier; a new frame is numbered after all old ones. None makes a packing that is lighter than
+-- before
 pub record Lightest (cost : ℕ → ℕ → ℕ) (p : Packing) (s : Signal) (new : Packing) : Type 0 where
   pub frame : ℕ
   pub may : Placeable p s frame

@@ -5,10 +5,15 @@ ghost use Rattle.packing.specs.Packings.{packing_weight};
 
 use domains::domain::Domain;
 use packing::tables::Tables;
+use timing::everywhere::Frames;
 use weights::weigh::rows_weight;
 
 pub(crate) fn plan_weight<B: Domain>(bank: &B, tables: &Tables) -> u64
     ensures { result ≡ packing_weight (B.cost bank.now) (held tables.now) }
 {
-    rows_weight(bank, tables.frame_rows())
+    let frames = Frames {
+        bank,
+        rows: tables.frame_rows(),
+    };
+    rows_weight(&frames)
 }

@@ -15,11 +15,11 @@ const FAIR: Signal = Signal {
     set: 1,
 };
 
-// The number with which the signal is refused by an empty draft over one domain, or 0, which is no refusal's.
-fn refusal(signal: Signal) -> Result<u8, Fail> {
+// The number with which the signal is refused by an empty draft over one domain, if it is.
+fn refusal(signal: Signal) -> Result<Option<u8>, Fail> {
     let mut draft = Draft::new(Gateway::new(20_000, 100)?);
     let refused = draft.enter(signal).err();
-    Ok(refused.map_or(0, |fault| fault.number()))
+    Ok(refused.map(|fault| fault.number()))
 }
 
 fn of_period(period: u64, deadline: u64) -> Signal {
@@ -32,16 +32,16 @@ fn of_period(period: u64, deadline: u64) -> Signal {
 
 #[test]
 fn limits_of_figures(rt: HostRuntime) -> Result<(), Fail> {
-    assert_eq!(rt; refusal(FAIR)?, 0);
-    assert_eq!(rt; refusal(Signal { sender: 16, ..FAIR })?, 2);
-    assert_eq!(rt; refusal(Signal { size: 0, ..FAIR })?, 3);
-    assert_eq!(rt; refusal(Signal { size: 65, ..FAIR })?, 3);
-    assert_eq!(rt; refusal(of_period(999_999, 1))?, 4);
-    assert_eq!(rt; refusal(of_period(1_000_000, 1))?, 0);
-    assert_eq!(rt; refusal(of_period(2_000_000_000, 2_000_000_000))?, 0);
-    assert_eq!(rt; refusal(of_period(2_000_000_001, 1))?, 4);
-    assert_eq!(rt; refusal(of_period(1_000_000, 0))?, 5);
-    assert_eq!(rt; refusal(of_period(1_000_000, 1_000_001))?, 5);
+    assert_eq!(rt; refusal(FAIR)?, None);
+    assert_eq!(rt; refusal(Signal { sender: 16, ..FAIR })?, Some(2));
+    assert_eq!(rt; refusal(Signal { size: 0, ..FAIR })?, Some(3));
+    assert_eq!(rt; refusal(Signal { size: 65, ..FAIR })?, Some(3));
+    assert_eq!(rt; refusal(of_period(999_999, 1))?, Some(4));
+    assert_eq!(rt; refusal(of_period(1_000_000, 1))?, None);
+    assert_eq!(rt; refusal(of_period(2_000_000_000, 2_000_000_000))?, None);
+    assert_eq!(rt; refusal(of_period(2_000_000_001, 1))?, Some(4));
+    assert_eq!(rt; refusal(of_period(1_000_000, 0))?, Some(5));
+    assert_eq!(rt; refusal(of_period(1_000_000, 1_000_001))?, Some(5));
     Ok(())
 }
 
@@ -55,13 +55,13 @@ fn questions_in_order(rt: HostRuntime) -> Result<(), Fail> {
         set: 0,
         ..FAIR
     };
-    assert_eq!(rt; refusal(all_wrong)?, 2);
+    assert_eq!(rt; refusal(all_wrong)?, Some(2));
     assert_eq!(rt;
         refusal(Signal {
             sender: 0,
             ..all_wrong
         })?,
-        3
+        Some(3)
     );
     assert_eq!(rt;
         refusal(Signal {
@@ -69,12 +69,12 @@ fn questions_in_order(rt: HostRuntime) -> Result<(), Fail> {
             deadline: 0,
             ..FAIR
         })?,
-        3
+        Some(3)
     );
-    assert_eq!(rt; refusal(Signal { set: 0, ..FAIR })?, 6);
+    assert_eq!(rt; refusal(Signal { set: 0, ..FAIR })?, Some(6));
     assert_eq!(rt;
         refusal(Signal { set: 2, ..FAIR })?,
-        6,
+        Some(6),
         "outside a bank of one domain"
     );
     Ok(())

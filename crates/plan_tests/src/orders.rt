@@ -2,6 +2,7 @@
 use bus::bus::Bus;
 use frames::row::Row;
 use ordering::orders::find_order;
+use plan::closed::Standing;
 use std::test::Fail;
 use timing::everywhere::Frames;
 
@@ -13,7 +14,7 @@ const PATIENT: Row = Row {
     set: 1,
 };
 
-// The last place goes to the first frame that is in time there. A clone is the same order.
+// The last place goes to the first frame that is in time there. A clone is the same order, and stands as the same.
 #[test]
 fn an_order_and_its_clone(rt: HostRuntime) -> Result<(), Fail> {
     let bank = Bus::new(2_000, 500)?;
@@ -25,8 +26,14 @@ fn an_order_and_its_clone(rt: HostRuntime) -> Result<(), Fail> {
     let order = find_order(&frames).map_err(|_conflict| Fail::new("there is an order"))?;
     assert_eq!(rt; order.numbers.as_slice(), [1, 0].as_slice());
     assert_eq!(rt; order.examinations, 2);
-    let again = order.clone()?;
+    // Nothing of it is allocated, so it is proved that the clone is there.
+    let again = order.clone().unwrap();
     assert_eq!(rt; again.numbers.as_slice(), order.numbers.as_slice());
     assert_eq!(rt; again.examinations, order.examinations);
+    let standing = Standing::Ordered(order);
+    let Standing::Ordered(stands) = standing.clone().unwrap() else {
+        return Err(Fail::new("not an order"));
+    };
+    assert_eq!(rt; stands.numbers.as_slice(), again.numbers.as_slice());
     Ok(())
 }

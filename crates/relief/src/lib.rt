@@ -13,6 +13,7 @@ use frames::limits::MAX_FRAMES;
 use frames::row::Row;
 
 // The places with frame i left out; a number that is not in the table leaves them as they are.
+// With `get_mut` for the guarded index the proof did not close: after it the array's length is known, and no element.
 fn left_out(places: [Place; MAX_FRAMES], i: usize) -> [Place; MAX_FRAMES]
     ensures { result ≡ slice_set places i Gone }
 {

@@ -8,8 +8,8 @@ use Rattle.sheet.specs.declared.fault.SheetFault.{SheetFault}
 use Rattle.sheet.specs.Faults.{at, at_field}
 use Rattle.sheet.specs.Forms.{Form, line}
 
--- the text, from line n on, does not go on with a line of the form: its letter is not the one due, or a field is not, up to
--- which it goes on so
+-- the text, from line n on, does not go on with a line of the form: its letter is not the one due, or a field is not,
+-- up to which it goes on so
 pub data OutOfForm (f : Form) (n : ℕ) (s : List ℕ) : SheetFault → Type 0 where
   first : ((t : List ℕ) → s ≢ f.first ∷ t) → OutOfForm f n s (at Letter n 0)
   later : (t : List ℕ) (e : FieldFault) → s ≡ f.first ∷ t → LineEnd f.widths t (Err e) → OutOfForm f n s (at_field n e)

@@ -34,8 +34,8 @@ pub data Comes (s : List ℕ) : List ℕ → Result Counted SheetFault → Type 
       → told (λ c. c.frames ∷ c.examinations ∷ []) r ≡ order_says (sheet_bank d) p → Comes s (plan_listing d p) (of_order r)
   faulty : {e : SheetFault} → Faulty s e → Comes s (fault_listing e) (Err e)
 
--- a run writes the listing to the front of the output and answers its length; where the output is shorter than the longest
--- listing it writes nothing
+-- a run writes the listing to the front of the output and answers its length; where the output is shorter than the
+-- longest listing it writes nothing
 abbrev pub Ran : List ℕ → List ℕ → List ℕ → Result Report SheetFault → Type 0
 Ran s entry exit (Err e) = (length entry < 6240) × (e ≡ at Output 0 0) × (exit ≡ entry)
 Ran s entry exit (Ok r) =

@@ -9,8 +9,8 @@ use std::test::Fail;
 // What no listing holds.
 const MARK: u8 = b'~';
 
-// No sheet of 16,384 bytes is free of faults, since it would have more signals than a plan may: the length is taken where it
-// is not what is at fault.
+// No sheet of 16,384 bytes is free of faults, since it would have more signals than a plan may: the length is taken
+// where it is not what is at fault.
 #[test]
 fn longest_sheet(rt: HostRuntime) -> Result<(), Fail> {
     let mut text = [b'\n'; LONGEST_SHEET + 1];

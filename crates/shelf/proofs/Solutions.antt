@@ -1,5 +1,6 @@
 -- The smallest number with a property, and the smallest solution of w = rule w: that it is the smallest, that there is
--- but one, that a lower rule has a lower one, and that it lies below each point that the rule does not raise. Assumes nothing.
+-- but one, that a lower rule has a lower one, and that it lies below each point that the rule does not raise.
+-- Assumes nothing.
 use Rattle.std.proofs.Common.{◌≡◌, ℕ, zero, suc, ◌+◌, ◌-◌, ◌<◌, ◌≤◌, Bool, true, false, cond, eqb, Some, None, Decides, Option, sym, refl, ⊎_elim, le_trans, le_refl, arith}
 use Rattle.std.proofs.lemmas.Bool.{cases_lt}
 use Rattle.std.proofs.lemmas.Bool.Decides.{Decides-eqb, not_from_Decides}

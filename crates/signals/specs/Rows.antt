@@ -8,7 +8,8 @@ use Rattle.signals.specs.declared.signal.Signal.{Signal}
 abbrev pub longest : ℕ
 longest = 2000000000
 
--- the sender of the last (they have one); the sum of the sizes; the smallest period; the smallest deadline; the union of the sets
+-- the sender of the last (they have one); the sum of the sizes; the smallest period; the smallest deadline; the union
+-- of the sets
 unfoldable pub row_by : List Signal → Row
 row_by ss = record {
   sender = fold (λ _ s. s.sender) 0 ss;

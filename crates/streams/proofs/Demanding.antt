@@ -1,7 +1,9 @@
 -- What streams demand: it rises with the time, and with the streams. Assumes nothing.
-use Rattle.std.proofs.Common.{◌≡◌, ℕ, ◌+◌, ◌-◌, ◌*◌, ◌/◌, ◌≤◌, List, [], ◌∷◌, le_trans, le_refl, mul-le-mul_right, div-lt_iff_lt-mul, mul-le-mul_left, le-div_iff_mul-le, div-mul-le_self, arith}
+use Rattle.std.proofs.Common.{◌≡◌, ℕ, ◌+◌, ◌-◌, ◌*◌, ◌/◌, ◌<◌, ◌≤◌, List, [], ◌∷◌, le_trans, le_refl, mul-le-mul_right, div-lt_iff_lt-mul, mul-le-mul_left, le-div_iff_mul-le, div-mul-le_self, arith}
 use Rattle.std.specs.List.{AllByRecursion}
+use Rattle.std.specs.Int.{div_ceil}
 use Rattle.std.proofs.lemmas.Nat.{mul-le}
+use Rattle.std.proofs.lemmas.Grind.{div_ceil_times}
 use Rattle.std.proofs.lemmas.List.Sums.{sum_by-cons}
 use Rattle.shelf.specs.Picks.{Perm}
 use Rattle.shelf.proofs.Perms.{perm_sum}
@@ -30,6 +32,13 @@ covered t w p = let x = (div-lt_iff_lt-mul {k = t} {x = w + (t - 1)} {y = (w + (
 
 pub ceil_rounded : (t w : ℕ) → 1 ≤ t → Rounded w t (ceil w t)
 ceil_rounded t w p = record { covers = covered t w p; least = λ n h. ceil_le t w n p h }
+
+-- the library's quotient that is rounded up
+pub div_ceil_is : (w t : ℕ) → 0 < t → div_ceil w t ≡ ceil w t
+unfolding ceil
+div_ceil_is w t p =
+    let times = div_ceil_times w t p in
+    omega (arith, ceil_le t w (div_ceil w t) (omega arith) times.0, (le-div_iff_mul-le {k = t} {x = div_ceil w t} {y = w + (t - 1)} p).1 (omega (arith, times.1)))
 
 pub demand_cons : (s : Stream) (streams : List Stream) (w : ℕ) → demand (s ∷ streams) w ≡ ceil w s.period * s.cost + demand streams w
 unfolding demand

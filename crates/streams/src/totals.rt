@@ -17,7 +17,8 @@ pub fn least_period(first: u64, streams: &[Stream]) -> u64
     smallest
 }
 
-// The largest of the streams' costs, or 0.
+// The largest of the streams' costs, or 0. It takes a slice and no `Load`, since a list of any length has one, and a
+// `Load` has 97 streams at the most.
 pub fn largest_cost(streams: &[Stream]) -> u64
     requires { AllByRecursion Fit streams.now }
     ensures is { result ≡ most (λ s. s.cost) streams.now }

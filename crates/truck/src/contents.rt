@@ -1,19 +1,19 @@
 // Prints which signals ride together, each frame's row and weight, and the plan's weight.
-use crate::truck::Line;
+use crate::truck::{Line, SIGNALS};
 use domains::domain::Domain;
 use frames::frame::Frame;
 use frames::row::Row;
 use plan::closed::Closed;
 use weights::weigh::frame_weight;
 
-// The names of the signals of the lines that ride in frame n.
+// The names of the signals, the usual ones and those more, that ride in frame n.
 fn print_riders<D: Domain>(
     rt: &impl Print,
     plan: &Closed<D>,
-    lines: &[Line],
+    more: &[Line],
     n: usize,
 ) -> anyhow::Result<()> {
-    for line in lines {
+    for line in SIGNALS.iter().chain(more) {
         let name = line.0;
         if plan.frame_of(name) == Ok(n) {
             print!(rt; " {name}")?;
@@ -42,14 +42,12 @@ pub fn print_packing<D: Domain>(
     rt: &impl Print,
     bank: &D,
     plan: &Closed<D>,
-    lines: &[Line],
     more: &[Line],
 ) -> anyhow::Result<()> {
     println!(rt; "frame sender fill payload    period  deadline set weight  signals")?;
     for n in 0..plan.frame_count() {
         let frame = plan.record(n)?;
         print_frame(rt, bank, n, &frame)?;
-        print_riders(rt, plan, lines, n)?;
         print_riders(rt, plan, more, n)?;
         println!(rt)?;
     }

@@ -15,8 +15,9 @@ use shown::busy::{BIT, print_busy_period};
 use signals::signal::Signal;
 use truck::{Bank, Line, SCANNERS, SIGNALS, bank};
 
-fn enter_all(rt: &impl Print, draft: &mut Draft<Bank>, lines: &[Line]) -> anyhow::Result<()> {
-    for line in lines {
+// Enters the usual signals and those more.
+fn enter_all(rt: &impl Print, draft: &mut Draft<Bank>, more: &[Line]) -> anyhow::Result<()> {
+    for line in SIGNALS.iter().chain(more) {
         let signal = Signal::from(*line);
         if let Err(fault) = draft.enter(signal) {
             let number = fault.number();
@@ -29,10 +30,9 @@ fn enter_all(rt: &impl Print, draft: &mut Draft<Bank>, lines: &[Line]) -> anyhow
 // A truck with the usual signals and some more.
 fn print_plan(rt: &impl Print, bank: Bank, more: &[Line]) -> anyhow::Result<()> {
     let mut draft = Draft::new(bank);
-    enter_all(rt, &mut draft, &SIGNALS)?;
     enter_all(rt, &mut draft, more)?;
     let mut plan = draft.close();
-    print_packing(rt, &bank, &plan, &SIGNALS, more)?;
+    print_packing(rt, &bank, &plan, more)?;
     print_outcome(rt, &mut plan)
 }
 

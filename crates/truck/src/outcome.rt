@@ -40,6 +40,7 @@ fn print_order<D: Domain>(
     )?;
     println!(rt; "identifier frame  response times")?;
     for place in 1..=MAX_FRAMES {
+        // 96 at the most: the cast is proved to lose nothing, where `u16::try_from` would want an `unwrap`.
         print_place(rt, plan, IDENTIFIER_STEP * place as u16)?;
     }
     Ok(())

@@ -1,5 +1,5 @@
-// Plans the sheet on standard input and writes its listing to standard output. It ends with status 0 where the frames have
-// an order, and with 1, after the listing, where they have none or the sheet is at fault.
+// Plans the sheet on standard input and writes its listing to standard output. It ends with status 0 where the frames
+// have an order, and with 1, after the listing, where they have none or the sheet is at fault.
 #![tactic(auto)]
 
 use listing::text::MAX_BYTES;

@@ -93,8 +93,8 @@ pub record WorkedFigures : Type 0 where
   pub lower : on_bus fast_bus due (due ∷ []) [] ≡ Some 244000
   pub alone : on_bus fast_bus due [] [] ≡ Some 122000
 
--- why a busy period has to be followed to its end: there is a bus, and a frame with others above it, whose answer exceeds
--- the time of its first instance
+-- why a busy period has to be followed to its end: there is a bus, and a frame with others above it, whose answer
+-- exceeds the time of its first instance
 pub record LaterInstance : Type 0 where
   pub bus : Bus
   pub frame_asked : Row

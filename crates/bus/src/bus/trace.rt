@@ -5,11 +5,9 @@ ghost use Rattle.kinds.specs.Rows.{of_streams};
 ghost use Rattle.bus.specs.Buses.{bus_price, bus_busy, bus_instance};
 
 use crate::bus::Bus;
-use crate::queue::busy_from;
+use crate::bus::busy::BusyPeriod;
 use domains::question::Question;
 use kinds::look::look;
-use streams::rounding::div_up;
-use streams::totals::largest_cost;
 
 impl Bus {
     // How long the bus is at worst busy with the frame and those above it; none where it has no end up to the horizon.
@@ -17,8 +15,8 @@ impl Bus {
         ensures { result ≡ asked (of_streams (bus_price self.now) bus_busy) question.now.rows.now question.now.places.now question.now.frame }
     {
         let streams = look(self, question)?;
-        let view = streams.view();
-        busy_from(&view, largest_cost(view.below))
+        let busy = BusyPeriod::of(*self, &streams.view())?;
+        Some(busy.length)
     }
 
     // The response time of instance q of that busy period, counted from 0; none past its last instance.
@@ -26,12 +24,10 @@ impl Bus {
         ensures { result ≡ asked (of_streams (bus_price self.now) (bus_instance self.now.arbitration q)) question.now.rows.now question.now.places.now question.now.frame }
     {
         let streams = look(self, question)?;
-        let view = streams.view();
-        let b = largest_cost(view.below);
-        let busy = busy_from(&view, b)?;
-        if q >= div_up(busy, view.own.period) {
+        let busy = BusyPeriod::of(*self, &streams.view())?;
+        if q >= busy.instances() {
             return None;
         }
-        Some(self.delay_of(&view, b, q, 0) + view.own.cost - q * view.own.period)
+        Some(busy.delay(q, 0) + busy.view.own.cost - q * busy.view.own.period)
     }
 }

@@ -11,7 +11,7 @@ ghost use Rattle.bus.specs.Wiring.{bus_kept};
 ghost use Rattle.kinds.proofs.Singles.{kind_duties};
 
 use crate::bus::Bus;
-use crate::queue::busy_from;
+use crate::bus::busy::BusyPeriod;
 use domains::domain::Domain;
 use domains::fault::DomainFault;
 use domains::figure::check_figure;
@@ -20,8 +20,6 @@ use frames::frame::Frame;
 use kinds::alone::{answer_alone, cost_alone};
 use kinds::kind::Kind;
 use kinds::view::View;
-use streams::rounding::div_up;
-use streams::totals::largest_cost;
 
 impl Bus {
     // A bus whose arbitration bits take 1,000 to 8,000 nanoseconds, and its data bits 125 up to as long.
@@ -57,21 +55,21 @@ impl Kind for Bus {
         ensures is { result ≡ bus_time self.now.arbitration view.now.own view.now.above.streams.now view.now.below.now }
         ensures words { BusAnswer self.now.arbitration view.now.own view.now.above.streams.now (blocking view.now.below.now) result }
     {
-        let b = largest_cost(view.below);
-        let busy = busy_from(view, b)?;
-        let instances = div_up(busy, view.own.period);
+        let busy = BusyPeriod::of(*self, view)?;
+        let instances = busy.instances();
         let mut worst: u64 = 0;
         let mut known: u64 = 0;
         for q in 0..instances {
             // The next instance waits at least until this one is done.
-            known = self.delay_of(view, b, q, known) + view.own.cost;
-            worst = worst.max(known - q * view.own.period);
+            known = busy.delay(q, known) + busy.view.own.cost;
+            worst = worst.max(known - q * busy.view.own.period);
         }
         Some(worst)
     }
 }
 
-// Each kind is a domain by an impl of its own, which is a rule of the project; its methods are what the kinds share.
+// Each kind has an impl of its own: one for all kinds would collide with that of `Pair`, and a wrapper would take
+// `Domain` from the kind itself. Its methods are what the kinds share.
 impl Domain for Bus {
     ghost count = { one };
 

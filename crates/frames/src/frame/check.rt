@@ -23,16 +23,16 @@ impl TryFrom<Row> for Frame {
             deadline,
             set,
         } = row;
-        if fill < 1 || fill > MAX_FILL {
+        if !(1..=MAX_FILL).contains(&fill) {
             return Err(RowFault::Fill);
         }
-        if period < 1_000_000 || period > MAX_PERIOD {
+        if !(1_000_000..=MAX_PERIOD).contains(&period) {
             return Err(RowFault::Period);
         }
-        if deadline < 1 || deadline > period {
+        if !(1..=period).contains(&deadline) {
             return Err(RowFault::Deadline);
         }
-        if set < 1 || set > 15 {
+        if !(1..=15).contains(&set) {
             return Err(RowFault::Set);
         }
         Ok(Frame {

@@ -47,7 +47,8 @@ impl Kind for Gateway {
     }
 }
 
-// Each kind is a domain by an impl of its own, which is a rule of the project; its methods are what the kinds share.
+// Each kind has an impl of its own: one for all kinds would collide with that of `Pair`, and a wrapper would take
+// `Domain` from the kind itself. Its methods are what the kinds share.
 impl Domain for Gateway {
     ghost count = { one };
 

@@ -43,7 +43,8 @@ impl Tables {
         self.rows.len()
     }
 
-    // The signals in order of entry, each with the number of its frame.
+    // The signals in order of entry, each with the number of its frame. Any tables are well packed by their invariants;
+    // `packed` says it in words to whoever reads the contract, as those of `enter` and `withdraw` do.
     pub fn entries(&self) -> &[Entry]
         ensures is { result.now ≡ (held self.now).signals }
         ensures packed { WellPacked (held self.now) }
@@ -51,7 +52,8 @@ impl Tables {
         self.signals.entries.as_slice()
     }
 
-    // The rows of the frames, in list order.
+    // The rows of the frames, in list order. A row is no record and holds no fact, so `lawful` stands here and below,
+    // wherever one is given out.
     pub fn frame_rows(&self) -> &[Row]
         ensures is { result.now ≡ rows (held self.now) }
         ensures few { length result.now ≤ 96 }

@@ -9,7 +9,8 @@ use frames::limits::MAX_FRAMES;
 use frames::row::Row;
 use packing::tables::Tables;
 
-// The place of frame n in the order, counted from 0; the number of places where it has none.
+// The place of frame n in the order, counted from 0; the number of places where it has none. It is no `Option`, since
+// the definition `place_in` wants how many come before the frame, and that many do.
 pub(crate) fn place_of(numbers: &[u8], n: usize) -> usize
     ensures is { result ≡ place_in n numbers.now }
     ensures low { result ≤ length numbers.now }

@@ -69,6 +69,7 @@ impl<B: Domain> Closed<B> {
     {
         self.check_frame(n)?;
         let place = place_of(&self.placement()?.numbers, n);
+        // The place is 96 at the most: the cast is proved to lose nothing, where `u16::try_from` would want an `unwrap`.
         Ok(IDENTIFIER_STEP * (place as u16 + 1))
     }
 

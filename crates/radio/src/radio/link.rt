@@ -43,11 +43,12 @@ impl Kind for Radio {
         let sum = view.own.cost + view.above.total_cost() + Load::new(view.below).total_cost();
         let period = least_period(view.own.period, view.above.as_slice());
         let period = least_period(period, view.below);
-        if sum <= period { Some(sum) } else { None }
+        (sum <= period).then_some(sum)
     }
 }
 
-// Each kind is a domain by an impl of its own, which is a rule of the project; its methods are what the kinds share.
+// Each kind has an impl of its own: one for all kinds would collide with that of `Pair`, and a wrapper would take
+// `Domain` from the kind itself. Its methods are what the kinds share.
 impl Domain for Radio {
     ghost count = { one };
 

@@ -1,6 +1,6 @@
 use Rattle.std.proofs.Common.{get_or, sym, ap, ◌∙◌, subst, arith}
 use Rattle.std.specs.List.{AllByRecursion}
-use Rattle.frames.proofs.Lawfuls.{from_lawful, checked_err, checked_ok}
+use Rattle.frames.proofs.Lawfuls.{from_lawful, lawful_row, checked_none, checked_some}
 use Rattle.streams.specs.Demands.{Fit}
 use Rattle.std.proofs.lemmas.List.Elements.{All-from_recursion}
 use Rattle.domains.proofs.Asking.{asked_long, asked_outside, asked_unlawful, asked_unlawful_above, asked_unlawful_below, asked_is}
@@ -20,15 +20,16 @@ returns-then-question-gt-MAX_FRAMES g c =
       | then-question-gt-MAX_FRAMES-via-else-question-gt-MAX_FRAMES+then-question w ↦ asked_outside response q.rows.now q.places.now q.frame w.if-question.true
     ]
 
-pub returns-in_default : goal.returns-in_default
-returns-in_default g c =
+pub returns-in_err-frame : goal.returns-in_err-frame
+returns-in_err-frame g c =
     let q = c.args.question.now in
-    λ response. asked_unlawful response _ _ _ (checked_err (get_or q.rows.now q.frame no_row) _ c.in_default.ensures)
+    subst (Looked _ q.rows.now q.places.now q.frame) (sym c.from_residual.ensures)
+    (λ response. asked_unlawful response _ _ _ (checked_none (get_or q.rows.now q.frame no_row) c.try_from.result c.try_from.ensures c.in_err-frame.ensures.value))
 
 pub returns-in_err-above : goal.returns-in_err-above
 returns-in_err-above g c =
     let q = c.args.question.now in
-    subst (Looked _ q.rows.now q.places.now q.frame) (sym c.from_residual.ensures) (λ response. asked_unlawful_above response _ _ _ c.in_err-above.ensures)
+    subst (Looked _ q.rows.now q.places.now q.frame) (sym c.from_residual-in_err-above.ensures) (λ response. asked_unlawful_above response _ _ _ c.in_err-above.ensures)
 
 pub returns-in_err-below : goal.returns-in_err-below
 returns-in_err-below g c =
@@ -39,19 +40,20 @@ pub invariant_of-result : goal.invariant_of-result
 invariant_of-result g c =
     let laws = g.met.K.Kind.kept in
     let d = c.args.kind.now in
-    let own = checked_ok (get_or c.args.question.now.rows.now c.args.question.now.frame no_row) c.in-Ok.frame c.in-Ok.ensures in
+    let row = checked_some (get_or c.args.question.now.rows.now c.args.question.now.frame no_row) c.try_from.result c.in_ok-frame.frame c.try_from.ensures c.in_ok-frame.ensures.value in
+    let own = lawful_row _ c.in_ok-frame.frame row in
     let above = c.in_ok-above.ensures in
     let below = c.in_ok-below.ensures in
     record {
-      fit = subst Fit (sym (c.stream_of.ensures ∙ ap (stream_by (g.K.Kind.price d)) c.in-Ok.ensures)) (own_by laws d (get_or c.args.question.now.rows.now c.args.question.now.frame no_row) (from_lawful _ own)).fit;
+      fit = subst Fit (sym (c.stream_of.ensures ∙ ap (stream_by (g.K.Kind.price d)) row)) (own_by laws d (get_or c.args.question.now.rows.now c.args.question.now.frame no_row) (from_lawful _ own)).fit;
       over = All-from_recursion Fit _ (subst (AllByRecursion Fit) (sym above.1) (all_fit laws d _ ((all_lawful _).0 above.0)));
       under = All-from_recursion Fit _ (subst (AllByRecursion Fit) (sym below.1) (all_fit laws d _ ((all_lawful _).0 below.0)));
     }
 
 pub returns : goal.returns
 returns g c =
-    let row = c.in-Ok.ensures in
-    let own = checked_ok (get_or c.args.question.now.rows.now c.args.question.now.frame no_row) c.in-Ok.frame row in
+    let row = checked_some (get_or c.args.question.now.rows.now c.args.question.now.frame no_row) c.try_from.result c.in_ok-frame.frame c.try_from.ensures c.in_ok-frame.ensures.value in
+    let own = lawful_row _ c.in_ok-frame.frame row in
     let above = c.in_ok-above.ensures in
     let below = c.in_ok-below.ensures in
     record {

@@ -1,8 +1,9 @@
-use Rattle.std.proofs.Common.{refl}
-use Rattle.streams.specs.Demands.{ceil}
-use Rattle.streams.proofs.Demanding.{ceil_rounded}
+use Rattle.std.proofs.Common.{sym, ◌∙◌, subst}
+use Rattle.streams.specs.Demands.{Rounded}
+use Rattle.streams.proofs.Demanding.{ceil_rounded, div_ceil_is}
 use Rattle.streams.proofs.rounding.div_up.Goals as goal
 
 pub returns : goal.returns
-unfolding ceil
-returns c = record { is = refl; rounded = ceil_rounded c.args.by c.args.n c.requires.divides }
+returns c =
+    let is = c.div_ceil.ensures ∙ div_ceil_is c.args.n c.args.by c.requires in
+    record { is = is; rounded = subst (Rounded c.args.n c.args.by) (sym is) (ceil_rounded c.args.by c.args.n c.requires) }

@@ -9,8 +9,8 @@ use Rattle.weights.proofs.weigh.rows_weight.Goals as goal
 pub sum-requires-clause-can : goal.sum-requires-clause-can
 sum-requires-clause-can g c = (
   tt,
-  serves_from_places (YieldsList-from_slice c.args.rows.now (search rules)) (λ x q e. search rules)
-      (λ x k l e. let one : Lawful x.now = subst Lawful (sym e) (All-get_or Lawful c.args.rows.now k _ l c.requires.lawful) in search rules),
+  serves_from_places (YieldsList-from_slice c.args.frames.now.rows.now (search rules)) (λ x q e. search rules)
+      (λ x k l e. let one : Lawful x.now = subst Lawful (sym e) (All-get_or Lawful c.args.frames.now.rows.now k _ l c.requires) in search rules),
 )
 
 pub returns : goal.returns
