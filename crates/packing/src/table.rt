@@ -5,7 +5,7 @@ use signals::signal::Entry;
 // A plan has no more.
 pub const MAX_SIGNALS: usize = 256;
 
-#[derive(Drop)]
+#[derive(Clone, Drop)]
 pub struct SignalTable {
     pub(crate) entries: ArrayVec<Entry, MAX_SIGNALS>,
 }
