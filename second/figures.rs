@@ -5,7 +5,9 @@ use crate::planner::domains::Domain::{self, Bus, Gateway, Radio};
 use crate::planner::frames::{frames_of, Frame, Rider, Signal};
 use crate::planner::orders::{set_of, Orders};
 use crate::planner::packing::weight;
-use crate::sheets::published::{message, slow_bus, MESSAGE};
+use crate::planner::{plan, Due};
+use crate::sheets::lines::{sheet, usual_bank};
+use crate::sheets::published::{message, slow_bus, three_signals, MESSAGE};
 
 const FAST: Domain = Bus { arbitration: 2_000, data: 500 };
 
@@ -22,12 +24,24 @@ pub fn all() -> Vec<(&'static str, bool)> {
         ("two hasty frames, second", answer(FAST, &[(8, 1_000_000); 2], 1) == Some(244_000)),
         ("a hasty frame alone", answer(FAST, &[(8, 1_000_000)], 0) == Some(122_000)),
     ];
+    figures.push(("the listing of three signals", listing(&three_signals()) == THREE_LISTED));
+    figures.push(("the listing of no signals", listing(&sheet(&usual_bank(), &[])).is_empty()));
+    figures.push(("the listing of an empty sheet", listing("") == "EEE 11 0001 0\n"));
     let late = published_times();
     figures.push(("the first published message", late[0] == Some(2 * MESSAGE)));
     figures.push(("the second published message", late[1] == Some(3 * MESSAGE)));
     // Its first instance takes three messages' time, its second three and a half.
     figures.push(("the third published message", late[2] == Some(3_976_000)));
     figures
+}
+
+const THREE_LISTED: &str = "008 2 02 004C4B40 004C4B40 3 00039210 00016760\n010 1 0C 00989680 00989680 1 00039210\n";
+
+fn listing(text: &str) -> String {
+    match plan(text.as_bytes()) {
+        Due::Order(text) | Due::Conflict(text) | Due::Fault(text) => text,
+        Due::Judged(..) => "judged when it is seen".into(),
+    }
 }
 
 const GATEWAY: Domain = Gateway { fixed: 20_000, byte: 100 };

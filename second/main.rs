@@ -104,7 +104,8 @@ fn wrong_figures() -> usize {
 fn print_difference(sheet: &Sheet, answer: &Answer, how: &str) {
     println!("second: the first sheet that differs, of the group {}: {}", sheet.group, sheet.about);
     println!("{}", escaped(&sheet.text));
-    println!("the program ended with status {:?} and wrote:\n{}", answer.status, escaped(&answer.listing));
+    let status = answer.status.map_or("no status".to_string(), |status| format!("status {status}"));
+    println!("the program ended with {status} and wrote:\n{}", escaped(&answer.listing));
     println!("{how}");
 }
 

@@ -28,7 +28,7 @@ pub fn set_of(frames: &[usize]) -> Frames {
     frames.iter().fold(0, |set, &k| set | bit(k))
 }
 
-pub fn members(set: Frames) -> impl DoubleEndedIterator<Item = usize> {
+pub fn members(set: Frames) -> impl Iterator<Item = usize> {
     (0..128).filter(move |&k| set & bit(k) != 0)
 }
 

@@ -9,9 +9,26 @@ pub fn sheets() -> Vec<(String, Vec<u8>)> {
     sheets.extend(of_figures());
     sheets.extend(of_counts());
     sheets.extend(of_lengths());
+    sheets.extend(of_ties());
     sheets.extend(of_meetings());
     sheets.extend(of_busy_periods());
     sheets
+}
+
+/// Signals of one sender whose last one has choices of the same growth, or nearly. Its deadline tells where it rides.
+fn of_ties() -> Vec<(String, Vec<u8>)> {
+    let mut domains = usual_bank();
+    // A cost that is the same for every payload.
+    domains[2] = Gateway { fixed: 20_000, byte: 0 };
+    // Sizes and sets.
+    let cases: [&[(u64, u64)]; 4] =
+        [&[(40, 1), (40, 1), (8, 1)], &[(44, 1), (40, 1), (8, 1)], &[(9, 1), (1, 4)], &[(33, 1), (33, 1), (1, 4)]];
+    let entered = |of: &[(u64, u64)]| {
+        let signal = |(&(size, set), name)| Signal { size, set, deadline: 9_000_000 - name, ..quiet(name) };
+        let signals: Vec<Signal> = of.iter().zip(1..).map(signal).collect();
+        (format!("sizes and sets {of:?}"), sheet(&domains, &signals).into_bytes())
+    };
+    cases.into_iter().map(entered).collect()
 }
 
 /// Seven frames of one length; the first of them is released again just before, at or after the last instant that
@@ -93,49 +110,29 @@ fn of_signals() -> Vec<(String, Vec<u8>)> {
     SIGNALS.iter().map(changed).collect()
 }
 
+/// Figures of a domain that lie at a limit, or next to it.
 fn of_figures() -> Vec<(String, Vec<u8>)> {
-    let buses = [
-        (999, 125),
-        (1_000, 124),
-        (1_000, 125),
-        (1_000, 1_000),
-        (1_000, 1_001),
-        (8_000, 125),
-        (8_000, 8_000),
-        (8_000, 8_001),
-        (8_001, 125),
-        (8_001, 8_001),
-        (999, 124),
-        (0, 0),
-        (0xFFFF_FFFF, 0xFFFF_FFFF),
-    ];
-    let gateways = [
-        (999, 0),
-        (1_000, 0),
-        (100_000, 0),
-        (100_001, 0),
-        (1_000, 1_000),
-        (1_000, 1_001),
-        (999, 1_001),
-        (100_000, 1_000),
-        (0, 0),
-        (0xFFFF_FFFF, 0xFFFF_FFFF),
-    ];
-    let radios = [9_999, 10_000, 200_000, 200_001, 0, 0xFFFF_FFFF];
     let mut changes: Vec<(usize, Domain)> = Vec::new();
-    for (arbitration, data) in buses {
-        changes.extend([0, 1].map(|at| (at, Bus { arbitration, data })));
+    for arbitration in [0, 999, 1_000, 8_000, 8_001, 0xFFFF_FFFF] {
+        for data in [124, 125, arbitration, arbitration + 1] {
+            let data = data.min(0xFFFF_FFFF);
+            changes.push((0, Bus { arbitration, data }));
+        }
+        changes.push((1, Bus { arbitration, data: 1_000 }));
     }
-    changes.extend(gateways.map(|(fixed, byte)| (2, Gateway { fixed, byte })));
-    changes.extend(radios.map(|byte| (3, Radio { byte })));
-    let changed = |(at, domain): (usize, Domain)| {
-        let about = format!("domain {at} is {domain:?}");
-        let mut domains = usual_bank();
-        domains[at] = domain;
-        let reaches_all = Signal { set: 15, ..quiet(1) };
-        (about, sheet(&domains, &[reaches_all, quiet(2)]).into_bytes())
-    };
-    changes.into_iter().map(changed).collect()
+    for fixed in [0, 999, 1_000, 100_000, 100_001, 0xFFFF_FFFF] {
+        changes.extend([0, 1_000, 1_001, 0xFFFF_FFFF].map(|byte| (2, Gateway { fixed, byte })));
+    }
+    changes.extend([0, 9_999, 10_000, 200_000, 200_001, 0xFFFF_FFFF].map(|byte| (3, Radio { byte })));
+    changes.into_iter().map(with_domain).collect()
+}
+
+fn with_domain((at, domain): (usize, Domain)) -> (String, Vec<u8>) {
+    let about = format!("domain {at} is {domain:?}");
+    let mut domains = usual_bank();
+    domains[at] = domain;
+    let reaches_all = Signal { set: 15, ..quiet(1) };
+    (about, sheet(&domains, &[reaches_all, quiet(2)]).into_bytes())
 }
 
 fn of_counts() -> Vec<(String, Vec<u8>)> {

@@ -7,16 +7,22 @@ use crate::planner::frames::{frames_of, Signal, PAYLOADS};
 use crate::planner::orders::{set_of, Orders, FEW};
 use crate::planner::sheet::read;
 
+/// What the signals of a plan have in common.
+struct Style {
+    senders: u64,
+    sets: &'static [u64],
+    pace: Pace,
+}
+
 pub fn sheet(random: &mut Random) -> (String, Vec<u8>) {
     let domains = bank(random);
     let large = random.once_in(20);
     let count = if large { random.within(15, 50) } else { random.within(1, 10) };
     let senders = if large { random.within(3, 15) } else { random.within(1, 4) };
-    let sets =
-        random.pick(&[&[1][..], &[1, 2, 3], &[1, 1, 1, 2, 4, 5, 7], &[4], &[8, 9], &[1, 2, 3, 4, 5, 6, 7, 8, 15]]);
     let pace = random.pick(&PACES);
-    let mut signals: Vec<Signal> =
-        (1..=count).map(|name| signal(name, senders, sets, pace, &domains, random)).collect();
+    let sets = random.pick(if pace.is_slow() { &SLOW_SETS } else { &FAST_SETS });
+    let style = Style { senders, sets, pace };
+    let mut signals: Vec<Signal> = (1..=count).map(|name| signal(name, &style, &domains[0], random)).collect();
     let rounds = if large { 0 } else { random.pick(&[0, 1, 1, 2, 3, 4, 6]) };
     (0..rounds).for_each(|_| draw_close(&domains, &mut signals, random));
     let about = format!("{count} signals, pace {pace:?}, {rounds} figures drawn close");
@@ -45,33 +51,43 @@ enum Pace {
     Within(u64, u64),
 }
 
+impl Pace {
+    /// Whether the radio link can keep up, where a frame takes milliseconds.
+    fn is_slow(self) -> bool {
+        matches!(self, Pace::Within(5_000_000.., _))
+    }
+}
+
+const FAST_SETS: [&[u64]; 4] = [&[1], &[1, 2, 3], &[1, 1, 1, 2, 4, 5, 7], &[4]];
+const SLOW_SETS: [&[u64]; 4] = [&[1], &[1, 2, 3, 4, 5, 6, 7], &[8, 9], &[1, 2, 3, 4, 5, 6, 7, 8, 15]];
+
 const PACES: [Pace; 6] = [
     Pace::Meeting,
     Pace::Meeting,
     Pace::Within(1_000_000, 4_000_000),
     Pace::Within(2_000_000, 20_000_000),
     Pace::Within(5_000_000, 200_000_000),
-    Pace::Within(1_000_000, 2_000_000_000),
+    Pace::Within(20_000_000, 2_000_000_000),
 ];
 
-fn signal(name: u64, senders: u64, sets: &[u64], pace: Pace, domains: &[Domain], random: &mut Random) -> Signal {
+fn signal(name: u64, style: &Style, bus: &Domain, random: &mut Random) -> Signal {
     let most = random.pick(&[8, 8, 8, 64]);
-    let pace = if random.once_in(5) { random.pick(&PACES) } else { pace };
+    let pace = if random.once_in(8) { random.pick(&PACES) } else { style.pace };
     let drawn = match pace {
-        Pace::Meeting => meeting(&domains[0], random),
+        Pace::Meeting => meeting(bus, random),
         Pace::Within(low, high) => random.within(low, high),
     };
     let period = drawn.clamp(1_000_000, 2_000_000_000);
-    let any = random.within(1, period);
     let late = random.within(period / 2, period);
-    let few = meeting(&domains[0], random).clamp(1, period);
+    let few = meeting(bus, random).clamp(1, period);
+    let early = if random.once_in(4) { random.within(1, period) } else { few };
     Signal {
         name,
-        sender: random.within(1, senders),
+        sender: random.within(1, style.senders),
         size: random.within(1, most),
         period,
-        deadline: random.pick(&[period, period, period, late, late, few, any]),
-        set: random.pick(sets),
+        deadline: random.pick(&[period, period, period, period, late, late, early]),
+        set: random.pick(style.sets),
     }
 }
 

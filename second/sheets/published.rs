@@ -40,7 +40,8 @@ pub fn sheets() -> Vec<(String, Vec<u8>)> {
     sheets
 }
 
-/// In each order of the list, as published, and with deadlines just at, below and above what the third is late.
+/// In each order of the list, with the deadlines as published, and with one that is 1 ns below how late the third can
+/// be, or just that.
 fn three_messages() -> Vec<(String, Vec<u8>)> {
     let mut domains = usual_bank();
     domains[0] = slow_bus();
