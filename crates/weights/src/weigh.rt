@@ -41,8 +41,9 @@ pub fn frame_weight<D: Domain>(bank: &D, frame: &Frame) -> u64
     (0..MOST_DOMAINS).map(|k| weight_in(bank, k, frame)).sum()
 }
 
-// What the frame of a row within the limits weighs. Tables hold rows and no records, since a row is gathered from signals
-// beginning with a blank one, which no record can be: so a record is made here, and `Lawful` is asked of the row.
+// What the frame of a row within the limits weighs. Tables hold rows and no records, since a row is gathered from
+// signals beginning with a blank one, which no record can be: so a record is made here, and `Lawful` is asked of the
+// row.
 pub fn row_weight<D: Domain>(bank: &D, row: &Row) -> u64
     requires { Lawful row.now }
     ensures is { result ≡ row_weight (D.cost bank.now) row.now }

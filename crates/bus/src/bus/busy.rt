@@ -26,7 +26,8 @@ pub(crate) struct BusyPeriod<'a> {
 }
 
 impl<'a> BusyPeriod<'a> {
-    // None where it has no end up to the horizon.
+    // None where it has no end up to the horizon. It asks what `Kind::time` asks, where it is said why no view holds
+    // that.
     pub(crate) fn of(bus: Bus, view: &View<'a>) -> Option<BusyPeriod<'a>>
         requires own { Own (bus_price bus) view.now.own }
         requires under { AllByRecursion Fit view.now.below.now }

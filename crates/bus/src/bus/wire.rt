@@ -48,7 +48,8 @@ impl Kind for Bus {
         }
     }
 
-    // Every instance of the busy period counts: a later one can be later than the first.
+    // Every instance of the busy period counts: a later one can be later than the first. It asks what `Kind::time`
+    // asks, where it is said why no view holds that.
     fn time(&self, view: &View<'_>) -> Option<u64>
         requires own { Own (bus_price self.now) view.now.own }
         requires under { AllByRecursion Fit view.now.below.now }
