@@ -27,6 +27,8 @@ pub fn hex<const W: usize>(v: u64) -> [u8; W]
 {
     let mut text = [0; W];
     let mut rest = v;
+    // By place, from the last to the first: which digit goes where is the rule, and an iterator over the places from
+    // the back would be no plainer.
     for i in (0..W).rev() {
         text[i] = digit((rest % 16) as u8);
         rest /= 16;

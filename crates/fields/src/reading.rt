@@ -67,6 +67,8 @@ pub fn read_line_end<'a, const N: usize>(
     requires narrow { IsTrue (list_all (λ w. nat_le w 8) widths.now) }
     ensures { LineEnd widths.now text.now (ended result) }
 {
+    // An array of results is not collected without a heap, so each value goes to the number of its field, which a fault
+    // names too.
     let mut values = [0; N];
     let mut rest = text;
     for (i, width) in widths.iter().enumerate() {
@@ -76,6 +78,7 @@ pub fn read_line_end<'a, const N: usize>(
         values[i] = value;
         rest = more;
     }
+    // The two ends of a line side by side, which `ok_or` and `?` would say no plainer.
     match after(rest, b'\n') {
         Some(rest) => Ok((values, rest)),
         None => Err(FieldFault::Feed(N as u8 + 1)),

@@ -42,7 +42,8 @@ impl Listing {
         }
     }
 
-    // The line of frame n in the order that stands.
+    // The line of frame n in the order that stands. Each of the three lines asks for the room of the longest: a type
+    // that held it would be no plainer, since each push leaves less.
     pub(crate) fn push_order_line<B: Domain>(&mut self, plan: &Closed<B>, n: usize)
         requires room { length self.old.bytes.items + 65 ≤ 6240 }
         requires within { n < (held plan.now.tables).frames }

@@ -28,7 +28,8 @@ plan_listing d p = listing (sheet_bank d) p (ordered (sheet_bank d) p)
 abbrev pub fault_listing : SheetFault → List ℕ
 fault_listing e = fault_line (cause_told e.cause).number e.line e.field
 
--- what a sheet comes to: the listing of its plan, which tells what stands of it, and what order answered; or its first fault
+-- what a sheet comes to: the listing of its plan, which tells what stands of it, and what order answered; or its first
+-- fault
 pub data Comes (s : List ℕ) : List ℕ → Result Counted SheetFault → Type 0 where
   planned : (d : Four) (ss : List Signal) (p : Packing) (r : Result Counted PlanFault) → Lawful s d ss p → Told (sheet_bank d) p (ordered (sheet_bank d) p) (plan_listing d p)
       → told (λ c. c.frames ∷ c.examinations ∷ []) r ≡ order_says (sheet_bank d) p → Comes s (plan_listing d p) (of_order r)

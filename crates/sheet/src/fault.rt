@@ -91,7 +91,8 @@ pub struct OnLine<F> {
     pub fault: F,
 }
 
-// What a call that was made on a line gave.
+// What a call that was made on a line gave. Its callers were tried with `map_err` and a closure: a proof then does not
+// find what the call itself says of the fault.
 pub(crate) fn on_line<T, F>(line: u16, called: Result<T, F>) -> Result<T, OnLine<F>>
     ensures { MatchResult result (λ x. called ≡ Ok x) (λ e. (e.line ≡ line) × (called ≡ Err e.fault)) }
 {

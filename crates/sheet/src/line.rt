@@ -36,6 +36,7 @@ pub(crate) fn read_line<'a, const N: usize>(
             field: 0,
         });
     };
+    // Tried with `map_err`: the toolchain does not cover it, since the result holds a slice that is lent to the caller.
     match read_line_end(rest, widths) {
         Ok(read) => Ok(read),
         Err(fault) => Err(OnLine { line, fault }.into()),

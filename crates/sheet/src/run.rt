@@ -60,7 +60,8 @@ fn list_sheet(sheet: &[u8]) -> Result<(Listing, Result<Counted, PlanFault>), She
     list_lines(bank, text)
 }
 
-// The answer of order. A refusal concerns the whole sheet, which is line 0.
+// The answer of order. A refusal concerns the whole sheet, which is line 0. `on_line` and `?` would be no plainer, with
+// an `Ok` around them.
 fn of_order(answer: Result<Counted, PlanFault>) -> Result<Counted, SheetFault>
     ensures { result ≡ of_order answer }
 {
