@@ -1,6 +1,7 @@
 -- What a look at a list gives to a kind. Assumes nothing.
 use Rattle.std.proofs.Common.{◌≡◌, ℕ, List, get_or, Option, sym, ap, ◌∙◌, subst, ap₂}
 use Rattle.frames.specs.declared.row.Row.{Row}
+use Rattle.lists.specs.Items.{items}
 use Rattle.streams.specs.declared.stream.Stream.{Stream}
 use Rattle.domains.specs.declared.place.Place.{Place}
 use Rattle.domains.specs.Asked.{asked, no_row}
@@ -16,7 +17,7 @@ module _ {D : Type 0} {price : D → ℕ → ℕ} {time : D → Stream → List 
   seen_own = subst (Own (price d)) (sym seen.own_is) (own_by laws d _ seen.lawful_own)
 
 -- what is made of the streams is what the question is answered
-pub seen_is : (price : ℕ → ℕ) (rows : List Row) (places : List Place) (f : ℕ) (v : Streams) → Seen price rows places f v → (m : Stream → List Stream → List Stream → Option ℕ) {s : Stream} {us ls : List Stream} → s ≡ v.own → us ≡ v.above.items → ls ≡ v.below.items → m s us ls ≡ asked (of_streams price m) rows places f
+pub seen_is : (price : ℕ → ℕ) (rows : List Row) (places : List Place) (f : ℕ) (v : Streams) → Seen price rows places f v → (m : Stream → List Stream → List Stream → Option ℕ) {s : Stream} {us ls : List Stream} → s ≡ v.own → us ≡ items v.above → ls ≡ items v.below → m s us ls ≡ asked (of_streams price m) rows places f
 seen_is price rows places f v seen m {us} {ls} own above below =
     ap (λ (s : Stream). m s us ls) (own ∙ seen.own_is)
     ∙ ap₂ (λ (u l : List Stream). m (stream_by price (get_or rows f no_row)) u l) (above ∙ seen.above_is) (below ∙ seen.below_is)

@@ -6,6 +6,7 @@ use Rattle.frames.specs.Limits.{Lawful}
 use Rattle.domains.specs.declared.place.Place.{Place}
 use Rattle.domains.specs.declared.place.Place.TheVariants.{Above, Below}
 use Rattle.domains.specs.Asked.{standing, asked, no_row}
+use Rattle.lists.specs.Items.{items}
 use Rattle.kinds.specs.declared.view.Streams.{Streams}
 use Rattle.kinds.specs.Rows.{stream_by}
 
@@ -15,8 +16,8 @@ pub record Seen (price : ℕ → ℕ) (rows : List Row) (places : List Place) (f
   pub lawful_above : AllByRecursion Lawful (standing Above rows places f)
   pub lawful_below : AllByRecursion Lawful (standing Below rows places f)
   pub own_is : v.own ≡ stream_by price (slice_index_or rows f no_row)
-  pub above_is : v.above.items ≡ map (stream_by price) (standing Above rows places f)
-  pub below_is : v.below.items ≡ map (stream_by price) (standing Below rows places f)
+  pub above_is : items v.above ≡ map (stream_by price) (standing Above rows places f)
+  pub below_is : items v.below ≡ map (stream_by price) (standing Below rows places f)
   pub answered : (response : Row → List Row → List Row → Option ℕ) → asked response rows places f ≡ response (slice_index_or rows f no_row) (standing Above rows places f) (standing Below rows places f)
 
 -- where nothing is seen, every question gets none

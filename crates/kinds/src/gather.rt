@@ -6,11 +6,11 @@ ghost use Rattle.kinds.specs.Rows.{stream_by};
 ghost use Rattle.kinds.specs.Gathered.{Gathered};
 
 use crate::kind::Kind;
-use arrayvec::ArrayVec;
 use domains::place::Place;
 use domains::question::Question;
 use frames::frame::Frame;
 use frames::limits::MAX_FRAMES;
+use lists::list::ArrayList;
 use streams::stream::Stream;
 
 // A frame as a kind sees it.
@@ -28,11 +28,11 @@ pub(crate) fn gather<K: Kind>(
     kind: &K,
     question: &Question<'_>,
     wanted: Place,
-) -> Option<ArrayVec<Stream, MAX_FRAMES>>
+) -> Option<ArrayList<Stream, MAX_FRAMES>>
     requires { length question.now.rows.now ≤ 96 }
     ensures { Gathered (K.price kind.now) (standing wanted question.now.rows.now question.now.places.now question.now.frame) result }
 {
-    let mut found = ArrayVec::new();
+    let mut found = ArrayList::new();
     for (i, row) in question.rows.iter().enumerate() {
         if question.stance(i) == wanted {
             let frame = Frame::try_from(*row).ok()?;

@@ -1,21 +1,22 @@
 // What a question tells of a list: the frame asked about, and those above and below it, as streams.
 ghost use Rattle.std.specs.Prelude.{◌≡◌, ◌≤◌, All, length};
+ghost use Rattle.lists.specs.Items.{items};
 ghost use Rattle.streams.specs.Demands.{Fit};
 
-use arrayvec::ArrayVec;
 use frames::limits::MAX_FRAMES;
+use lists::list::ArrayList;
 use streams::load::Load;
 use streams::stream::Stream;
 
 // As they are gathered and held; `View` lends them.
-#[derive(Drop)]
+#[derive(Clone, Copy)]
 pub struct Streams {
     pub(crate) own: Stream,
-    pub(crate) above: ArrayVec<Stream, MAX_FRAMES>,
-    pub(crate) below: ArrayVec<Stream, MAX_FRAMES>,
+    pub(crate) above: ArrayList<Stream, MAX_FRAMES>,
+    pub(crate) below: ArrayList<Stream, MAX_FRAMES>,
     ghost fit: { Fit own },
-    ghost over: { All Fit above.items },
-    ghost under: { All Fit below.items },
+    ghost over: { All Fit (items above) },
+    ghost under: { All Fit (items below) },
 }
 
 // As a kind of domain is asked. What stands below does not matter to each kind, so only those to whom it does ask that
@@ -32,8 +33,8 @@ pub struct View<'a> {
 impl Streams {
     pub fn view(&self) -> View<'_>
         ensures own { result.own ≡ self.now.own }
-        ensures above { result.above.streams.now ≡ self.now.above.items }
-        ensures below { result.below.now ≡ self.now.below.items }
+        ensures above { result.above.streams.now ≡ items self.now.above }
+        ensures below { result.below.now ≡ items self.now.below }
         ensures less { length result.below.now ≤ 96 }
     {
         View {

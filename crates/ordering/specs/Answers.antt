@@ -1,5 +1,6 @@
 -- What the public call answers. Assumes nothing.
 use Rattle.std.specs.Prelude.{◌≡◌, ℕ, ◌+◌, ◌*◌, ◌/◌, ◌≤◌, Bool, List, [], map, length, take, drop, replicate, Some, None, Ok, Err, Option, Result}
+use Rattle.lists.specs.Items.{items}
 use Rattle.shelf.specs.Picks.{Perm}
 use Rattle.shelf.specs.Numbers.{numbers}
 use Rattle.timing.specs.Places.{above, row_at}
@@ -14,15 +15,15 @@ use Rattle.ordering.specs.declared.conflicts.Conflict.{Conflict}
 abbrev pub Arranged : (ℕ → List ℕ → List ℕ → Bool) → List ℕ → ℕ → Option Placement → Type 0
 Arranged t us count None = greedy t count us [] ≡ None
 Arranged t us count (Some p) =
-    (greedy t count us [] ≡ Some p.numbers.items) × (p.examinations ≡ examinations t count us [])
+    (greedy t count us [] ≡ Some (items p.numbers)) × (p.examinations ≡ examinations t count us [])
 
 pub record Placed (t : Row → List Row → List Row → Bool) (rows : List Row) (p : Placement) : Type 0 where
-  pub is : order_of t rows no_row ≡ Some p.numbers.items
-  pub count : length p.numbers.items ≡ length rows
+  pub is : order_of t rows no_row ≡ Some (items p.numbers)
+  pub count : length (items p.numbers) ≡ length rows
   pub examinations : p.examinations ≡ examinations_of t rows no_row
   pub few : p.examinations ≤ length rows * (length rows + 1) / 2
-  pub once : Perm (numbers 0 rows) p.numbers.items
-  pub meets : Meets t (map (row_at rows) p.numbers.items)
+  pub once : Perm (numbers 0 rows) (items p.numbers)
+  pub meets : Meets t (map (row_at rows) (items p.numbers))
 
 pub record Refused (t : Row → List Row → List Row → Bool) (rows : List Row) (c : Conflict) : Type 0 where
   pub none : order_of t rows no_row ≡ None

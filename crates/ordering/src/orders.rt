@@ -4,17 +4,17 @@ ghost use Rattle.ordering.specs.Answers.{Answered};
 
 use crate::conflicts::{Conflict, find_conflict};
 use crate::places::arrange;
-use arrayvec::ArrayVec;
 use domains::domain::Domain;
 use domains::place::Place;
 use frames::limits::MAX_FRAMES;
+use lists::list::ArrayList;
 use timing::everywhere::Frames;
 
 // The number of the frame at each place, and how many examinations it took.
-#[derive(Clone, Drop)]
+#[derive(Clone, Copy)]
 pub struct Placement {
     pub examinations: usize,
-    pub numbers: ArrayVec<u8, MAX_FRAMES>,
+    pub numbers: ArrayList<u8, MAX_FRAMES>,
 }
 
 pub fn find_order<B: Domain>(frames: &Frames<B>) -> Result<Placement, Conflict>

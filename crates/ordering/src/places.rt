@@ -6,9 +6,9 @@ ghost use Rattle.ordering.specs.Answers.{Arranged};
 ghost use Rattle.ordering.specs.Orders.{found, examined};
 
 use crate::orders::Placement;
-use arrayvec::ArrayVec;
 use domains::domain::Domain;
 use domains::place::Place;
+use lists::list::ArrayList;
 use timing::everywhere::{Frames, Trial};
 
 // The frame that a place goes to, and how many were examined for it.
@@ -56,7 +56,7 @@ pub(crate) fn arrange<B: Domain>(
 {
     let mut placement = Placement {
         examinations: 0,
-        numbers: ArrayVec::new(),
+        numbers: ArrayList::new(),
     };
     while placement.numbers.len() < count {
         let looked = examine(&Trial {
@@ -68,7 +68,7 @@ pub(crate) fn arrange<B: Domain>(
         places[f] = Place::Below;
         placement.examinations += looked.examinations;
         // The number is below 96: the cast is proved to lose nothing, where `u8::try_from` would want an `unwrap`.
-        placement.numbers.insert(0, f as u8);
+        placement.numbers.push_front(f as u8);
     }
     Some(placement)
 }

@@ -6,7 +6,8 @@ use Rattle.frames.proofs.Lawfuls.{checked_none, checked_some, lawful_from, lawfu
 use Rattle.shelf.specs.Folds.{every}
 use Rattle.domains.specs.Asked.{same, stance, picked, standing, no_row}
 use Rattle.domains.proofs.Places.{same_is}
-use Rattle.arrayvec.specs.ArrayVec.{ArrayVec}
+use Rattle.lists.specs.declared.list.ArrayList.{ArrayList}
+use Rattle.lists.specs.Items.{items}
 use Rattle.streams.specs.declared.stream.Stream.{Stream}
 use Rattle.kinds.specs.Gathered.{Gathered}
 use Rattle.kinds.specs.Rows.{stream_by}
@@ -36,10 +37,10 @@ loop-i-preserved g c =
       | then-eq+in_ok-frame w ↦
           let frame = w.in_ok-frame.frame in
           let row = checked_some (get_or q.rows.now i no_row) w.try_from.result frame w.try_from.ensures w.in_ok-frame.ensures.value in
-          let now-found = ap (λ (v : ArrayVec Stream). v.items) w.found-is ∙ w.push.ensures.items ∙ ap (λ x. c.loop-i.found.items ++ (x ∷ [])) w.stream_of.ensures in
-          subst (Gathering price t rows (i + 1)) (sym now-found) (gathering_more price t rows i c.loop-i.found.items c.loop-i.invariant c.loop-i-test.true (at ∙ sym w.if-eq.ensures) (row_of frame) row (lawful_from (row_of frame) (lawful_frame frame)))
+          let now-found = ap (λ (v : ArrayList Stream 96). items v) w.found-is ∙ w.push.ensures ∙ ap (λ x. items c.loop-i.found ++ (x ∷ [])) w.stream_of.ensures in
+          subst (Gathering price t rows (i + 1)) (sym now-found) (gathering_more price t rows i (items c.loop-i.found) c.loop-i.invariant c.loop-i-test.true (at ∙ sym w.if-eq.ensures) (row_of frame) row (lawful_from (row_of frame) (lawful_frame frame)))
       | else-eq w ↦
-          subst (Gathering price t rows (i + 1)) (sym (ap (λ (v : ArrayVec Stream). v.items) w.found-is)) (gathering_skip price t rows i c.loop-i.found.items c.loop-i.invariant c.loop-i-test.true (at ∙ sym w.if-eq.ensures))
+          subst (Gathering price t rows (i + 1)) (sym (ap (λ (v : ArrayList Stream 96). items v) w.found-is)) (gathering_skip price t rows i (items c.loop-i.found) c.loop-i.invariant c.loop-i-test.true (at ∙ sym w.if-eq.ensures))
     ]
 
 pub returns : goal.returns

@@ -1,5 +1,6 @@
 use native.Mathlib.Nat.{sub-zero}
 use Rattle.timing.proofs.Combining.{everywhere_laws}
+use Rattle.lists.specs.Items.{items}
 use Rattle.std.proofs.Common.{◌<◌, length, sym, ◌∙◌, arith}
 use Rattle.ordering.proofs.Placing.{placing_none, placing_few, placing_more, placing_end, frame_within}
 use Rattle.ordering.proofs.places.arrange.Goals as goal
@@ -21,10 +22,10 @@ overflow_cast-f g c =
 
 pub loop-places-preserved : goal.loop-places-preserved
 loop-places-preserved g c =
-    let room : length c.loop-places.placement.numbers.items < c.args.count = omega arith in
-    rw (c.insert.ensures.items, c.examine-looked.ensures.examinations) (placing_more c.loop-places.invariant (everywhere_laws g.met.B.Domain.duties c.args.frames.now.bank.now) room c.in_ok-f.f (sym c.examine-looked.ensures.frame ∙ c.in_ok-f.was))
+    let room : length (items c.loop-places.placement.numbers) < c.args.count = omega arith in
+    rw (c.push_front.ensures, c.examine-looked.ensures.examinations) (placing_more c.loop-places.invariant (everywhere_laws g.met.B.Domain.duties c.args.frames.now.bank.now) room c.in_ok-f.f (sym c.examine-looked.ensures.frame ∙ c.in_ok-f.was))
 
 pub returns-in_err-f : goal.returns-in_err-f
 returns-in_err-f g c =
-    let room : length c.loop-places.placement.numbers.items < c.args.count = omega arith in
+    let room : length (items c.loop-places.placement.numbers) < c.args.count = omega arith in
     rw c.from_residual.ensures (placing_end c.loop-places.invariant (everywhere_laws g.met.B.Domain.duties c.args.frames.now.bank.now) room (sym c.examine-looked.ensures.frame ∙ c.in_err-f.was))
