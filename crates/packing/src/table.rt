@@ -1,13 +1,13 @@
 // The signals of a plan, in order of entry.
-use arrayvec::ArrayVec;
+use lists::list::ArrayList;
 use signals::signal::Entry;
 
 // A plan has no more.
 pub const MAX_SIGNALS: usize = 256;
 
-#[derive(Clone, Drop)]
+#[derive(Clone, Copy)]
 pub struct SignalTable {
-    pub(crate) entries: ArrayVec<Entry, MAX_SIGNALS>,
+    pub(crate) entries: ArrayList<Entry, MAX_SIGNALS>,
 }
 
 pub mod edit;

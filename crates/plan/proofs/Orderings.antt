@@ -1,6 +1,7 @@
 -- What order answers and leaves, by what the search found. Assumes nothing.
 use Rattle.std.proofs.Common.{◌≡◌, ◌≤◌, Bool, true, false, [], ◌∷◌, length, take, sym, refl, ap, ◌∙◌, ap₂, subst}
 use Rattle.std.proofs.lemmas.Bool.{true≢false}
+use Rattle.lists.specs.Items.{items}
 use Rattle.packing.specs.Packings.{Packing, rows}
 use Rattle.timing.specs.Laws.{Laws}
 use Rattle.timing.specs.Places.{above}
@@ -27,9 +28,9 @@ pub record Outcome (m : Bank) (p : Packing) (answer : Said) (left : Stands) (giv
   pub upheld : Upheld m p left
 
 module _ (m : Bank) (laws : Laws (in_time m)) (p : Packing) (few : p.frames ≤ 96) where
-  pub order_given : (pl : Placement) → Placed (in_time m) (rows p) pl → Outcome m p (gives (length pl.numbers.items ∷ pl.examinations ∷ [])) (order pl.numbers.items) true
+  pub order_given : (pl : Placement) → Placed (in_time m) (rows p) pl → Outcome m p (gives (length (items pl.numbers) ∷ pl.examinations ∷ [])) (order (items pl.numbers)) true
   order_given pl h =
-      let stand : order pl.numbers.items ≡ ordered m p = sym (ap (standing_after m p) h.is) in
+      let stand : order (items pl.numbers) ≡ ordered m p = sym (ap (standing_after m p) h.is) in
       record {
         says = ap₂ (λ x y. gives (x ∷ y ∷ [])) h.count h.examinations ∙ sym (ap (order_answers m p) h.is);
         stands = stand;

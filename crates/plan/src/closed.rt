@@ -5,7 +5,7 @@ use packing::tables::Tables;
 
 // What stands: an order, a conflict, or neither. Three names are plainer than an Option of a Result, in which a
 // conflict that stands would read as a failure.
-#[derive(Clone, Drop)]
+#[derive(Clone, Copy)]
 pub enum Standing {
     Neither,
     Ordered(Placement),

@@ -10,8 +10,11 @@ impl SignalTable {
     pub(crate) fn close_up(&mut self, f: usize)
         ensures { listed self.new ≡ map (lower f) (listed self.old) }
     {
-        for entry in self.entries.as_mut_slice() {
+        // By place: a list that lends its items to be changed would want a proof by hand over the machine.
+        for i in 0..self.entries.len() {
+            let mut entry = self.entries.as_slice()[i];
             entry.frame = moved_up(entry.frame, f);
+            self.entries.set(i, entry);
         }
     }
 }

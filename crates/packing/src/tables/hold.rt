@@ -14,6 +14,7 @@ use crate::tables::Tables;
 use arrayvec::ArrayVec;
 use frames::limits::MAX_FRAMES;
 use frames::row::Row;
+use lists::list::ArrayList;
 use signals::entries::has_rider;
 use signals::gather::{BLANK, gather, join};
 use signals::signal::{Entry, Signal};
@@ -24,7 +25,7 @@ impl Tables {
     {
         Tables {
             signals: SignalTable {
-                entries: ArrayVec::new(),
+                entries: ArrayList::new(),
             },
             rows: ArrayVec::new(),
         }
@@ -96,8 +97,9 @@ impl Tables {
     {
         let gone = self.signals.entries.remove(i);
         let f = gone.frame;
-        if has_rider(&self.signals.entries, f) {
-            put(&mut self.rows, f, gather(&self.signals.entries, f));
+        let left = self.signals.entries.as_slice();
+        if has_rider(left, f) {
+            put(&mut self.rows, f, gather(left, f));
         } else {
             self.signals.close_up(f);
             self.rows.remove(f);

@@ -68,7 +68,7 @@ impl<B: Domain> Closed<B> {
         ensures { told (λ i. i ∷ []) result ≡ identifier_says (held self.now.tables) (stands_of (held self.now.tables).frames self.now.standing) n }
     {
         self.check_frame(n)?;
-        let place = place_of(&self.placement()?.numbers, n);
+        let place = place_of(self.placement()?.numbers.as_slice(), n);
         // The place is 96 at the most: the cast is proved to lose nothing, where `u16::try_from` would want an `unwrap`.
         Ok(IDENTIFIER_STEP * (place as u16 + 1))
     }
@@ -78,7 +78,7 @@ impl<B: Domain> Closed<B> {
         ensures { told (λ t. t ∷ []) result ≡ response_says (bank_of (B.count self.now.bank) (B.cost self.now.bank) (B.response self.now.bank)) (held self.now.tables) (stands_of (held self.now.tables).frames self.now.standing) n k }
     {
         self.check_frame(n)?;
-        let numbers = &self.placement()?.numbers;
+        let numbers = self.placement()?.numbers.as_slice();
         if !carries(k, self.tables.row(n).set) {
             return Err(PlanFault::NotCarried);
         }

@@ -11,9 +11,9 @@ row_with-row-requires c =
 -- the term stands twice: a lemma on the step of the push would refuse one more step by its type, and not by a fact
 pub invariant_of-self : goal.invariant_of-self
 invariant_of-self c =
-    let k = put_in c.args.self.now c.args.signal c.args.n c.requires _ _ _ c.push.ensures.items c.row_with-row.ensures.is c.put.ensures.old c.put.ensures.next in
+    let k = put_in c.args.self.now c.args.signal c.args.n c.requires _ _ _ c.push.ensures c.row_with-row.ensures.is c.put.ensures.old c.put.ensures.next in
     record { ok = k.ok; kept = k.kept }
 
 pub returns : goal.returns
 returns c =
-    (put_in c.args.self.now c.args.signal c.args.n c.requires _ _ _ c.push.ensures.items c.row_with-row.ensures.is c.put.ensures.old c.put.ensures.next).is
+    (put_in c.args.self.now c.args.signal c.args.n c.requires _ _ _ c.push.ensures c.row_with-row.ensures.is c.put.ensures.old c.put.ensures.next).is

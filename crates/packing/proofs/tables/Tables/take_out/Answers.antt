@@ -1,4 +1,5 @@
 use Rattle.std.proofs.Common.{◌≤◌, set, sym, ap, ◌∙◌, subst, arith}
+use Rattle.lists.specs.Items.{items}
 use Rattle.signals.specs.Riders.{riders, any_in}
 use Rattle.signals.specs.Rows.{row_by}
 use Rattle.packing.specs.Holds.{held}
@@ -10,7 +11,7 @@ use Rattle.packing.proofs.tables.Tables.take_out.Goals.{After-put, After-remove}
 pub gather-requires : goal.gather-requires
 gather-requires c =
     let e = c.remove-gone.ensures in
-    subst (λ es. (row_by (riders c.remove-gone.result.frame es)).fill ≤ 64) (sym c.deref-then-has_rider.ensures.0) (out_fill c.args.self.now c.args.i c.requires _ _ e.value e.items)
+    subst (λ es. (row_by (riders c.remove-gone.result.frame es)).fill ≤ 64) (sym c.as_slice-left.ensures) (out_fill c.args.self.now c.args.i c.requires _ _ e.value e.items)
 
 pub put-requires : goal.put-requires
 put-requires c =
@@ -19,11 +20,11 @@ put-requires c =
     record { near = omega (arith, below.0); room = omega (arith, below.0, below.1) }
 
 -- the frame stays
-stayed : (c : goal.After-put) → Kept (taken_out (held c.args.self.now) c.args.i) c.remove-gone.new.self.items c.put.new.rows.items
+stayed : (c : goal.After-put) → Kept (taken_out (held c.args.self.now) c.args.i) (items c.remove-gone.new.self) c.put.new.rows.items
 stayed c =
     let e = c.remove-gone.ensures in
-    stays c.args.self.now c.args.i c.requires _ _ e.value e.items (ap (any_in _) (sym c.deref.ensures.0) ∙ sym c.if-has_rider.ensures) _
-    (c.put.ensures.old (out_below c.args.self.now c.args.i c.requires _ _ e.value e.items).0 ∙ ap (set _ _) (c.gather.ensures ∙ ap (λ es. row_by (riders c.remove-gone.result.frame es)) c.deref-then-has_rider.ensures.0))
+    stays c.args.self.now c.args.i c.requires _ _ e.value e.items (ap (any_in _) (sym c.as_slice-left.ensures) ∙ sym c.if-has_rider.ensures) _
+    (c.put.ensures.old (out_below c.args.self.now c.args.i c.requires _ _ e.value e.items).0 ∙ ap (set _ _) (c.gather.ensures ∙ ap (λ es. row_by (riders c.remove-gone.result.frame es)) c.as_slice-left.ensures))
 
 pub invariant_of-self : goal.invariant_of-self
 invariant_of-self c = record { ok = (stayed c).ok; kept = (stayed c).kept }
@@ -37,10 +38,10 @@ remove-requires c =
     (omega arith, (out_below c.args.self.now c.args.i c.requires _ _ e.value e.items).0)
 
 -- the frame leaves
-left : (c : goal.After-remove) → Kept (taken_out (held c.args.self.now) c.args.i) c.close_up.new.self.entries.items c.remove.new.self.items
+left : (c : goal.After-remove) → Kept (taken_out (held c.args.self.now) c.args.i) (items c.close_up.new.self.entries) c.remove.new.self.items
 left c =
     let e = c.remove-gone.ensures in
-    leaves c.args.self.now c.args.i c.requires _ _ e.value e.items (ap (any_in _) (sym c.deref.ensures.0) ∙ sym c.if-has_rider.ensures) _ c.close_up.ensures _ c.remove.ensures.items
+    leaves c.args.self.now c.args.i c.requires _ _ e.value e.items (ap (any_in _) (sym c.as_slice-left.ensures) ∙ sym c.if-has_rider.ensures) _ c.close_up.ensures _ c.remove.ensures.items
 
 pub invariant_of-self-else-has_rider : goal.invariant_of-self-else-has_rider
 invariant_of-self-else-has_rider c = record { ok = (left c).ok; kept = (left c).kept }

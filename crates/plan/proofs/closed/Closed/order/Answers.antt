@@ -13,12 +13,12 @@ returns-in-Ok g c =
     let m = bank_of (g.B.Domain.count x) (g.B.Domain.cost x) (g.B.Domain.response x) in
     let o = order_given m (everywhere_laws g.met.B.Domain.duties x) (held t) (to_sound _ t.ok).room _ c.in-Ok.ensures in
     record {
-      says = rw c.len.ensures.value o.says;
+      says = rw c.len.ensures.is o.says;
       stands = o.stands;
       holds = refl;
       bank = refl;
       refused = o.refused;
-      few = rw c.len.ensures.value (subst (λ k. c.in-Ok.placement.examinations ≤ k * (k + 1) / 2) (sym c.in-Ok.ensures.count) c.in-Ok.ensures.few);
+      few = rw c.len.ensures.is (subst (λ k. c.in-Ok.placement.examinations ≤ k * (k + 1) / 2) (sym c.in-Ok.ensures.count) c.in-Ok.ensures.few);
       upheld = o.upheld;
     }
 
