@@ -6,9 +6,11 @@ use domains::place::Place;
 use frames::frame::Frame;
 use frames::row::Row;
 use gateway::gateway::Gateway;
+use kinds::look::look;
 use radio::radio::Radio;
 use relief::relief;
 use std::test::Fail;
+use streams::stream::Stream;
 
 fn row(fill: u8) -> Row {
     Row {
@@ -17,6 +19,13 @@ fn row(fill: u8) -> Row {
         period: 10_000_000,
         deadline: 10_000_000,
         set: 15,
+    }
+}
+
+fn stream(cost: u64) -> Stream {
+    Stream {
+        cost,
+        period: 10_000_000,
     }
 }
 
@@ -37,6 +46,26 @@ fn numbers_of_a_bank(rt: HostRuntime) -> Result<(), Fail> {
     assert_eq!(rt; bank.cost(0, &frame), 20_800);
     assert_eq!(rt; bank.cost(1, &frame), 700_000);
     assert_eq!(rt; bank.cost(2, &frame), 0);
+    Ok(())
+}
+
+// One frame above and one below, as streams of a gateway. A copy and a clone show the same, and so does what they are of.
+#[test]
+fn streams_and_their_copy(rt: HostRuntime) -> Result<(), Fail> {
+    let gateway = Gateway::new(20_000, 100)?;
+    let rows = [row(64), row(8), row(8)];
+    let places = [Place::Above, Place::Absent, Place::Below];
+    let Some(streams) = look(&gateway, &about(&rows, &places, 1)) else {
+        return Err(Fail::new("nothing is seen"));
+    };
+    let copy = streams;
+    let again = streams.clone().unwrap();
+    for seen in [streams, copy, again] {
+        let view = seen.view();
+        assert_eq!(rt; view.own, stream(20_800));
+        assert_eq!(rt; view.above.as_slice(), [stream(26_400)].as_slice());
+        assert_eq!(rt; view.below, [stream(20_800)].as_slice());
+    }
     Ok(())
 }
 

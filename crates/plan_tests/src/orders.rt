@@ -37,3 +37,31 @@ fn an_order_and_its_clone(rt: HostRuntime) -> Result<(), Fail> {
     assert_eq!(rt; stands.numbers.as_slice(), again.numbers.as_slice());
     Ok(())
 }
+
+// A copy is the same order, and stands as the same; what it was copied from stays as it was.
+#[test]
+fn an_order_and_its_copy(rt: HostRuntime) -> Result<(), Fail> {
+    let bank = Bus::new(2_000, 500)?;
+    let rows = [PATIENT; 2];
+    let frames = Frames {
+        bank: &bank,
+        rows: &rows,
+    };
+    let order = find_order(&frames).map_err(|_conflict| Fail::new("there is an order"))?;
+    let copy = order;
+    assert_eq!(rt; copy.numbers.as_slice(), [1, 0].as_slice());
+    assert_eq!(rt; copy.examinations, 2);
+    assert_eq!(rt; order.numbers.as_slice(), [1, 0].as_slice());
+    assert_eq!(rt; order.examinations, 2);
+    let standing = Standing::Ordered(order);
+    let again = standing;
+    let Standing::Ordered(copied) = again else {
+        return Err(Fail::new("not an order"));
+    };
+    let Standing::Ordered(stands) = standing else {
+        return Err(Fail::new("no order any more"));
+    };
+    assert_eq!(rt; copied.numbers.as_slice(), [1, 0].as_slice());
+    assert_eq!(rt; stands.numbers.as_slice(), [1, 0].as_slice());
+    Ok(())
+}
