@@ -1,6 +1,6 @@
 -- The table that one domain is told, and what it is asked by it. Assumes nothing.
-use Rattle.std.proofs.Common.{◌≡◌, ℕ, suc, ◌+◌, ◌<◌, ◌≤◌, Bool, false, cond, not, ◌&&◌, eqb, leb, ltb, List, [], ◌∷◌, map, length, get_or, take, filter, None, Option, sym, refl, ap, ◌∙◌, ap₂, add-zero, arith, length-take, get_or-take}
-use Rattle.std.proofs.lemmas.Bool.{le-leb, lt-ltb}
+use Rattle.std.proofs.Common.{◌≡◌, ℕ, suc, ◌+◌, ◌<◌, ◌≤◌, Bool, false, cond, not, ◌&&◌, eqb, leb, ltb, List, [], ◌∷◌, map, length, get_or, set, take, filter, None, Option, sym, subst, ⊎_elim, refl, get_or-set_same, get_or-set_other, ap, ◌∙◌, ap₂, add-zero, arith, length-take, get_or-take}
+use Rattle.std.proofs.lemmas.Bool.{cases_lt, le-leb, lt-ltb}
 use Rattle.frames.specs.declared.row.Row.{Row}
 use Rattle.timing.specs.Carried.{carried}
 use Rattle.domains.specs.declared.place.Place.{Place}
@@ -12,6 +12,13 @@ use Rattle.timing.specs.Places.{is_above, is_below, row_at, rows_above, rows_bel
 
 abbrev pub AtTold : ℕ → List Row → List Place → List Place → ℕ → Type 0
 AtTold k rows ps out j = get_or out j Above ≡ cond (carried k (row_at rows j)) (get_or ps j Above) Absent
+
+-- one frame more
+pub told_more : (k : ℕ) (rows : List Row) (ps out : List Place) (i : ℕ) (x : Place) → i < length out → x ≡ cond (carried k (row_at rows i)) (get_or ps i Above) Absent → ((j : ℕ) → j < i → AtTold k rows ps out j)
+    → (j : ℕ) → j < i + 1 → AtTold k rows ps (set out i x) j
+told_more k rows ps out i x within here h j l =
+    ⊎_elim {C = AtTold k rows ps (set out i x) j} (λ before. get_or-set_other out i j x Above (λ e. absurd (omega (arith, e, before))) ∙ h j before)
+    (λ last. let e : i ≡ j = omega arith in subst (AtTold k rows ps (set out i x)) e (get_or-set_same out i x Above within ∙ here)) (cases_lt j i)
 
 -- the numbers chosen in the masked table
 chosen_told : (is : Place → Bool) → is Absent ≡ false → (q : ℕ → Bool) (i : ℕ) (ps ys : List Place) → length ys ≡ length ps → ((j : ℕ) → j < length ps → get_or ys j Above ≡ cond (q (i + j)) (get_or ps j Above) Absent) → chosen is i ys ≡ filter q (chosen is i ps)

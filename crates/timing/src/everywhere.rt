@@ -12,7 +12,6 @@ use domains::place::Place;
 use domains::question::Question;
 use frames::limits::MAX_FRAMES;
 use frames::row::Row;
-use std::array;
 
 // The frames of a list, over a bank of domains.
 #[derive(Drop)]
@@ -42,11 +41,15 @@ impl<B: Domain> Trial<'_, B> {
     }
 
     // The table with the frames left out that domain k does not carry. It has a place for every number that there may
-    // be; those past the rows are not asked about.
+    // be; those past the rows are not asked about, and so not worked out: lists are mostly far shorter.
     fn told(&self, k: usize) -> [Place; MAX_FRAMES]
         ensures { let rows = self.now.frames.now.rows.now in let places = self.now.places.now in (j : ℕ) → j < length rows → slice_index_or result j Up ≡ (if carried k (row_at rows j) then slice_index_or places j Up else Gone) }
     {
-        array::from_fn(|i| self.told_place(k, i))
+        let mut table = [Place::Absent; MAX_FRAMES];
+        for i in 0..self.frames.rows.len() {
+            table[i] = self.told_place(k, i);
+        }
+        table
     }
 
     // How late frame f can be in domain k.
