@@ -3,7 +3,7 @@ ghost use Rattle.std.specs.Prelude.{⊤, ◌≡◌, ◌≤◌, length};
 
 use std::alloc::AllocError;
 
-// The items are the first cells; those past them are never read.
+// The items are the first cells; no method gives those past them.
 pub struct ArrayList<T, const N: usize> {
     cells: [T; N],
     count: usize,

@@ -37,16 +37,17 @@ pub fn relief<D: Domain>(
 ) -> Option<u64>
     ensures { Gains (asked (D.response domain.now k) rows.now places f) (asked (D.response domain.now k) rows.now (slice_set places i Gone) f) result }
 {
-    let without = left_out(places, i);
     let question = Question {
         rows,
         places: &places,
         frame: f,
     };
     let before = domain.answer(k, &question)?;
+    let without = left_out(places, i);
     let question = Question {
+        rows,
         places: &without,
-        ..question
+        frame: f,
     };
     let after = domain.answer(k, &question).unwrap();
     Some(before - after)

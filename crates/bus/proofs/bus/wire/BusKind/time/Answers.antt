@@ -1,11 +1,11 @@
-use Rattle.std.proofs.Common.{◌≡◌, ◌+◌, ◌-◌, ◌*◌, Option, ℕ, Some, sym, refl, ap₂, ◌∙◌, subst, arith}
+use Rattle.std.proofs.Common.{◌≡◌, Option, ℕ, None, sym, refl, ◌∙◌, subst, arith}
 use Rattle.std.proofs.lemmas.List.Elements.{recursion_from_All}
 use Rattle.streams.specs.Demands.{Fit}
 use Rattle.kinds.specs.declared.view.View.{View}
 use Rattle.kinds.specs.KindLaws.{Own}
 use Rattle.bus.specs.declared.bus.Bus.{Bus}
 use Rattle.bus.specs.Answers.{BusAnswer}
-use Rattle.bus.specs.Buses.{blocking, bus_price, bus_time}
+use Rattle.bus.specs.Buses.{blocking, bus_busy, bus_price, bus_time}
 use Rattle.bus.specs.Bussing.{response_answer}
 use Rattle.bus.specs.Wiring.{short}
 use Rattle.bus.proofs.Instances.{instances_more, no_end, worst_found}
@@ -21,7 +21,9 @@ pub returns-in_err-busy : goal.returns-in_err-busy
 returns-in_err-busy c =
     let d = c.args.self.now in
     let v = c.args.view.now in
-    let is = c.from_residual.ensures ∙ no_end d.arbitration v.own v.above.streams.now (blocking v.below.now) c.in_err-busy.ensures in
+    -- by what `of` says, and by no name of a call
+    let ends : None ≡ bus_busy v.own v.above.streams.now v.below.now = grind arith in
+    let is = c.from_residual.ensures ∙ no_end d.arbitration v.own v.above.streams.now (blocking v.below.now) ends in
     record { is = is; words = in_words d v c.requires.own _ is }
 
 pub loop-q-preserved : goal.loop-q-preserved
@@ -32,7 +34,11 @@ loop-q-preserved c =
 pub returns : goal.returns
 returns c =
     let p = c.in_ok-busy.busy in
+    let d = c.args.self.now in
+    let v = c.args.view.now in
+    -- the same, of the busy period that there is
+    let same : bus_time p.bus.arbitration p.view.own p.view.above.streams.now p.view.below.now ≡ bus_time d.arbitration v.own v.above.streams.now v.below.now = grind arith in
     let all : c.loop-q.q ≡ c.instances-instances.result = omega arith in
     let is = worst_found p.bus.arbitration p.view.own p.view.above.streams.now (blocking p.view.below.now) p.length c.loop-q.q c.loop-q.worst p.is (all ∙ c.instances-instances.ensures) c.loop-q.invariant.worst_is
-    ∙ ap₂ (λ (d : Bus) (v : View). bus_time d.arbitration v.own v.above.streams.now v.below.now) c.in_ok-busy.ensures.0 c.in_ok-busy.ensures.1 in
-    record { is = is; words = in_words c.args.self.now c.args.view.now c.requires.own _ is }
+    ∙ same in
+    record { is = is; words = in_words d v c.requires.own _ is }
